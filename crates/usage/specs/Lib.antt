@@ -1,0 +1,4 @@
+pub mod Roles
+pub mod Rules
+pub mod Orders
+pub mod Books

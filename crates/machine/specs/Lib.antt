@@ -1,0 +1,15 @@
+pub mod State
+pub mod Lines
+pub mod Sweep
+pub mod Scenes
+pub mod Checks
+pub mod Step
+pub mod Journal
+pub mod Law
+pub mod Report
+pub mod Rising
+pub mod Placed
+pub mod Fitting
+pub mod Runs
+pub mod Figures
+pub mod Example

@@ -8,10 +8,16 @@ use records::Room;
 use records::Situation;
 use usage::rule::Rule;
 
+mod layers;
+mod leaves;
+mod makers;
+mod numbers;
+mod orders;
+
 const CODE: [u8; 8] = *b"00000001";
 
-/// A badge at a lot of its own level and role, in a room at work.
-pub fn situation() -> Situation {
+// A badge at a lot of its own level and role, in a room at work.
+fn situation() -> Situation {
     Situation {
         badge: Badge {
             number: 1,
@@ -37,8 +43,8 @@ pub fn situation() -> Situation {
     }
 }
 
-/// An access to read, with a serial.
-pub fn access(serial: u32) -> Access {
+// An access to read, with a serial.
+fn access(serial: u32) -> Access {
     Access {
         serial,
         badge: 1,
@@ -54,7 +60,7 @@ pub fn access(serial: u32) -> Access {
     }
 }
 
-/// A rule's answers to the opening and the staying question.
-pub fn answers<R: Rule>(rule: &R, s: &Situation) -> (u8, u8) {
+// A rule's answers to the opening and the staying question.
+fn answers<R: Rule>(rule: &R, s: &Situation) -> (u8, u8) {
     (rule.ask_opening(s), rule.ask_staying(s))
 }

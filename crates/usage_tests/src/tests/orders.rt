@@ -1,5 +1,5 @@
 //! Each order on a smaller key, a larger key and a tie.
-use crate::scene::access;
+use super::access;
 use std::test::*;
 use usage::order::EarliestStart;
 use usage::order::EarliestStartOrder;

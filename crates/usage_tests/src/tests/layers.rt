@@ -1,6 +1,6 @@
 //! The rules made out of rules.
-use crate::scene::answers;
-use crate::scene::situation;
+use super::answers;
+use super::situation;
 use records::ReturnedDebug;
 use records::Right;
 use std::test::*;

@@ -1,6 +1,6 @@
 //! Each rule that reads a situation, at both ends of what it passes.
-use crate::scene::answers;
-use crate::scene::situation;
+use super::answers;
+use super::situation;
 use records::Phase;
 use records::ReturnedDebug;
 use std::test::*;

@@ -3,9 +3,7 @@
 use Prim.Native.Nat.{ℕ, _+_, _<_}
 use mathlib.Core.List.{List}
 use mathlib.Core.Bool.{Bool}
-use mathlib.Core.Path.{_≡_, refl, sym, ap, subst}
-use Rattle.std.specs.Options.{valueOr}
-use Rattle.std.specs.declared.option.Option.{Option}
+use mathlib.Core.Path.{_≡_, refl, sym, subst}
 use Rattle.std.specs.declared.option.Option.the-variants.{Some}
 use native.Mathlib.Omega.{arith}
 use Rattle.records.specs.declared.Access.{Access}
@@ -17,7 +15,7 @@ use Rattle.register.specs.Lists.{In, first, changed}
 use Rattle.register.proofs.Tests.{eqb-same, eqb-equal}
 use Rattle.register.proofs.Lists.{first-in, in-without, all-changed, all-append}
 use Rattle.register.proofs.Apart.{Apart, apart-without, apart-changed, apart-append, first-apart}
-use Rattle.machine.specs.State.{Policy, Scene, State, is-access, no-access, access-of}
+use Rattle.machine.specs.State.{Policy, Scene, State, is-access, access-of}
 use Rattle.machine.specs.Scenes.{after-use, after-duty}
 use Rattle.machine.specs.Sweep.{close}
 use Rattle.machine.specs.Step.{opened, asked-for, moved}
@@ -40,9 +38,6 @@ Apart-serials s = Own-serials (s .scene .accesses) (s .next-serial)
 pub first-access : (xs : List Access) (a : Access) → Apart serial-of xs → In a xs → first (is-access (a .serial)) xs ≡ Some a
 first-access xs a h i =
     first-apart serial-of (is-access (a .serial)) xs a (eqb-same (a .serial)) (λ b e. eqb-equal (b .serial) (a .serial) e) h i
-
-pub access-found : (s : Scene) (a : Access) → Apart serial-of (s .accesses) → In a (s .accesses) → access-of s (a .serial) ≡ a
-access-found s a h i = ap (λ (o : Option Access). valueOr o no-access) (first-access (s .accesses) a h i)
 
 pub apart-new : {badges : List Badge} {lots : List Lot} (s : State) → New badges lots s → Apart-serials s
 apart-new s new =

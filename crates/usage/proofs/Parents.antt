@@ -1,14 +1,14 @@
 -- A parent is below its child, so that the way up from a role ends. Assumes nothing.
 use Prim.Native.Nat.{ℕ, zero, suc, _≤_, _<_, _+_}
 use mathlib.Core.List.{List, [], _∷_}
-use mathlib.Core.Bool.{Bool, true, false, cond, not, _&&_, _||_}
+use mathlib.Core.Bool.{Bool, true, false, not, _&&_, _||_}
 use mathlib.Core.Path.{_≡_, refl, sym, ap, subst, _∙_}
 use lib.Dec.{eqb, ltb}
 use lib.ListN.{getD}
 use native.Mathlib.Omega.{arith}
 use Rattle.std.specs.Orderings.{Decides}
 use Rattle.std.proofs.shelf.Ways.{tells}
-use Rattle.register.proofs.Tests.{by-test}
+use Rattle.register.proofs.Tests.{by-test, not-both, both}
 use Rattle.usage.specs.Roles.{parents, parent, met-within, at-or-above, Above}
 use Rattle.usage.specs.Roles.Above.{equal, over-parent}
 
@@ -32,7 +32,7 @@ parent-below role h = omega (arith, below-from parents 0 role refl (omega arith)
 at-root : (a z t : Bool) → z ≡ true → (a || (not z && t)) ≡ a
 at-root true z t e = refl
 at-root false true t e = refl
-at-root false false t e = let z : _≡_ {A = ℕ} 0 1 = ap (λ c. cond c 1 0) e in absurd (omega arith)
+at-root false false t e = not-both false e refl
 
 -- steps beyond the role's own number meet nothing more
 steps-enough : (role : ℕ) (n m other : ℕ) → other ≤ n → other ≤ m → met-within n role other ≡ met-within m role other
@@ -62,10 +62,6 @@ or-true : (a b : Bool) (P : Type 0) → (a || b) ≡ true → (a ≡ true → P)
 or-true true b P e here later = here refl
 or-true false b P e here later = later e
 
-and-true : (a b : Bool) (P : Type 0) → (a && b) ≡ true → (a ≡ true → b ≡ true → P) → P
-and-true true b P e both = both refl e
-and-true false b P e both = let z : _≡_ {A = ℕ} 0 1 = ap (λ c. cond c 1 0) e in absurd (omega arith)
-
 same-above : (role other : ℕ) → eqb role other ≡ true → Above role other
 same-above role other e = let same : role ≡ other = grind (arith, tells) in subst (λ v. Above role v) same equal
 
@@ -74,8 +70,10 @@ met-above zero role other e = same-above role other e
 met-above (suc n) role other e =
     let next : met-within n role (parent other) ≡ true → Above role (parent other) = met-above n role (parent other) in
     or-true (eqb role other) (not (eqb other 0) && met-within n role (parent other)) (Above role other) e (same-above role other)
-    (λ h. and-true (not (eqb other 0)) (met-within n role (parent other)) (Above role other) h
-    (λ positive met. over-parent (grind (arith, tells)) (next met)))
+    (λ h.
+    let parts : (not (eqb other 0) ≡ true) × (met-within n role (parent other) ≡ true) = both (not (eqb other 0)) (met-within n role (parent other)) h in
+    let positive : not (eqb other 0) ≡ true = parts .0 in
+    over-parent (grind (arith, tells)) (next (parts .1)))
 
 above-met : {role other : ℕ} → Above role other → at-or-above role other ≡ true
 above-met {role} equal =

@@ -1,4 +1,5 @@
 //! Tests of the crate grid: cells, counts, text, and each word that can be wrong.
+#![tactic(auto)]
 
 #[cfg(test)]
 mod tests {

@@ -1,4 +1,6 @@
 //! The journal of a shift: each call with its fields, what it answered, and the lines that it wrote.
+#![tactic(auto)]
+
 ghost use Rattle.std.specs.Prelude.{◌≡◌, ◌<◌, true, false, List, [], ◌∷◌, ◌++◌, map, length, take, is_err, vec_len, MatchResult};
 ghost use Rattle.records.specs.declared.Badge.{Badge};
 ghost use Rattle.records.specs.declared.Lot.{Lot};

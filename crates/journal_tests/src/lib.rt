@@ -1,4 +1,5 @@
 //! Examples of shifts under two rules, two orders and both purses: what the journal notes of each call.
+#![tactic(auto)]
 
 #[cfg(test)]
 mod tests {

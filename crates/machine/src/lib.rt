@@ -1,5 +1,6 @@
 //! What a monitor does, and the law that every shift keeps: definitions (specs/) and their proofs. Each function here
 //! carries one theorem as its contract.
+#![tactic(auto)]
 
 pub mod example;
 pub mod figures;

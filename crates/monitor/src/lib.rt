@@ -1,4 +1,6 @@
 //! The monitor over any rule, order and purse: its calls, each proved to be the machine's step.
+#![tactic(auto)]
+
 ghost use Rattle.std.specs.Prelude.{◌≡◌, ◌+◌, ◌≤◌, length, MatchResult};
 ghost use Rattle.machine.specs.Sweep.{close, sweep};
 ghost use Rattle.records.specs.Numbers.{returned_number};

@@ -1,5 +1,7 @@
 //! Prints, for a lot of a level and a wanted role, which badges may open an access: a row for each badge level and a
 //! column for each badge role, `.` for pass or the number of the rule that fails (1: the level, 2: the role).
+#![tactic(auto)]
+
 use anyhow::anyhow;
 use grid::profile::text_for;
 use std::env;

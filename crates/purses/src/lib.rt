@@ -1,4 +1,5 @@
 //! The purses that a plant chooses from: each account at a home of its own, or at homes that accounts share.
+#![tactic(auto)]
 
 pub mod own;
 pub mod pooled;

@@ -1,4 +1,6 @@
 //! Whether the numbers that a terminal sends, or that a record holds, are in their ranges.
+#![tactic(auto)]
+
 ghost use Rattle.std.specs.Prelude.{◌≡◌};
 ghost use Rattle.records.specs.Ranges.{between, badge_number_fits, code_fits, serial_fits, attribute_fits, units_fit, prices_fit, limit_fits, clock_fits, temperature_fits};
 

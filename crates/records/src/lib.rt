@@ -1,4 +1,6 @@
 //! The records of a monitor, and what a terminal sends and reads: plain data, and the number of every case (specs/).
+#![tactic(auto)]
+
 use register::key::Keyed;
 
 /// What an access is for.

@@ -16,7 +16,7 @@ pub enum Inserted {
 
 /// The first of `count` records that has this key.
 pub fn find<T: Keyed + Copy>(records: &[T], count: usize, key: &T::Key) -> Option<T>
-    ensures { result ≡ first (λ x. T.Key.Key.same (keyed x) key.now) (take count records.now) }
+    ensures { result ≡ first (λ x. T.Key.Key.same (T.keyed x) key.now) (take count records.now) }
 {
     let register = first_places(records, count);
     let at = place_of(register, key);
@@ -30,9 +30,9 @@ pub fn find<T: Keyed + Copy>(records: &[T], count: usize, key: &T::Key) -> Optio
 /// Puts a record in the place of the first of `count` that has its key, and says whether one had. Nothing changes where
 /// none has.
 pub fn replace<T: Keyed + Copy>(records: &mut [T], count: usize, new: T) -> bool
-    ensures there { result ≡ some (λ x. T.Key.Key.same (keyed x) (keyed new)) (take count records.old) }
-    ensures after { records.new ≡ changed (λ x. T.Key.Key.same (keyed x) (keyed new)) (λ _. new) (take count records.old) ++ drop count records.old }
-    ensures register { take count records.new ≡ changed (λ x. T.Key.Key.same (keyed x) (keyed new)) (λ _. new) (take count records.old) }
+    ensures there { result ≡ some (λ x. T.Key.Key.same (T.keyed x) (T.keyed new)) (take count records.old) }
+    ensures after { records.new ≡ changed (λ x. T.Key.Key.same (T.keyed x) (T.keyed new)) (λ _. new) (take count records.old) ++ drop count records.old }
+    ensures register { take count records.new ≡ changed (λ x. T.Key.Key.same (T.keyed x) (T.keyed new)) (λ _. new) (take count records.old) }
 {
     let key = new.key();
     let held = first_places(records, count);
@@ -47,9 +47,9 @@ pub fn replace<T: Keyed + Copy>(records: &mut [T], count: usize, new: T) -> bool
 /// Puts a record in the place of the first of `count` that has its key. Where none has, and a place behind them is
 /// free, the record goes before the first whose key is above its own.
 pub fn insert<T: Keyed + Copy>(records: &mut [T], count: usize, new: T) -> Inserted
-    ensures how { result ≡ insertion (some (λ x. T.Key.Key.same (keyed x) (keyed new)) (take count records.old)) (nat_lt count (length records.old)) }
-    ensures after { records.new ≡ slice_inserted result (λ x. T.Key.Key.same (keyed x) (keyed new)) (λ x. T.Key.Key.below (keyed new) (keyed x)) new count records.old }
-    ensures register { take (taken result count) records.new ≡ register_inserted result (λ x. T.Key.Key.same (keyed x) (keyed new)) (λ x. T.Key.Key.below (keyed new) (keyed x)) new (take count records.old) }
+    ensures how { result ≡ insertion (some (λ x. T.Key.Key.same (T.keyed x) (T.keyed new)) (take count records.old)) (nat_lt count (length records.old)) }
+    ensures after { records.new ≡ slice_inserted result (λ x. T.Key.Key.same (T.keyed x) (T.keyed new)) (λ x. T.Key.Key.below (T.keyed new) (T.keyed x)) new count records.old }
+    ensures register { take (taken result count) records.new ≡ register_inserted result (λ x. T.Key.Key.same (T.keyed x) (T.keyed new)) (λ x. T.Key.Key.below (T.keyed new) (T.keyed x)) new (take count records.old) }
 {
     if replace(records, count, new) {
         return Inserted::Replaced;
@@ -64,9 +64,9 @@ pub fn insert<T: Keyed + Copy>(records: &mut [T], count: usize, new: T) -> Inser
 
 /// Takes the first of `count` records that has this key out, and leaves it behind the others.
 pub fn remove<T: Keyed + Copy>(records: &mut [T], count: usize, key: &T::Key) -> Option<T>
-    ensures removed { result ≡ first (λ x. T.Key.Key.same (keyed x) key.now) (take count records.old) }
-    ensures after { records.new ≡ slice_removed result (λ x. T.Key.Key.same (keyed x) key.now) count records.old }
-    ensures register { count ≤ length records.old → take (left result count) records.new ≡ without (λ x. T.Key.Key.same (keyed x) key.now) (take count records.old) }
+    ensures removed { result ≡ first (λ x. T.Key.Key.same (T.keyed x) key.now) (take count records.old) }
+    ensures after { records.new ≡ slice_removed result (λ x. T.Key.Key.same (T.keyed x) key.now) count records.old }
+    ensures register { count ≤ length records.old → take (left result count) records.new ≡ without (λ x. T.Key.Key.same (T.keyed x) key.now) (take count records.old) }
 {
     let held = first_places(records, count);
     let end = held.len();
@@ -80,7 +80,7 @@ pub fn remove<T: Keyed + Copy>(records: &mut [T], count: usize, key: &T::Key) ->
 
 /// Whether each record's key is below the next one's.
 pub fn rises<T: Keyed>(records: &[T]) -> bool
-    ensures { result ≡ rises (λ x y. T.Key.Key.below (keyed x) (keyed y)) records.now }
+    ensures { result ≡ rises (λ x y. T.Key.Key.below (T.keyed x) (T.keyed y)) records.now }
 {
     for at in 1..records.len() {
         if !records[at - 1].key().is_below(&records[at].key()) {
@@ -99,7 +99,7 @@ fn first_places<T>(records: &[T], count: usize) -> &[T]
 
 // How many records stand before the first that has this key.
 fn place_of<T: Keyed>(records: &[T], key: &T::Key) -> usize
-    ensures place { result ≡ spot (λ x. T.Key.Key.same (keyed x) key.now) records.now }
+    ensures place { result ≡ spot (λ x. T.Key.Key.same (T.keyed x) key.now) records.now }
     ensures within { result ≤ length records.now }
 {
     for (i, record) in records.iter().enumerate() {
@@ -112,7 +112,7 @@ fn place_of<T: Keyed>(records: &[T], key: &T::Key) -> usize
 
 // How many records stand before the first whose key is above this one.
 fn place_above<T: Keyed>(records: &[T], key: &T::Key) -> usize
-    ensures place { result ≡ spot (λ x. T.Key.Key.below key.now (keyed x)) records.now }
+    ensures place { result ≡ spot (λ x. T.Key.Key.below key.now (T.keyed x)) records.now }
     ensures within { result ≤ length records.now }
 {
     for (i, record) in records.iter().enumerate() {

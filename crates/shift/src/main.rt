@@ -1,5 +1,7 @@
 //! Makes the calls of a worked day, two cutters at a lot with room for one, and prints its journal: `A` and the four
 //! numbers of each answer, then `L` and the fields of each of its lines.
+#![tactic(auto)]
+
 use anyhow::anyhow;
 use journal::{Entry, run};
 use monitor::Monitor;

@@ -1,5 +1,6 @@
 //! What the monitor is asked by: rules, orders and purses, each a trait that says what an implementation means and
 //! owes, with the implementations that a plant chooses from.
+#![tactic(auto)]
 
 pub mod number;
 pub mod order;

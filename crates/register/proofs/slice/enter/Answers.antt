@@ -5,5 +5,5 @@ use Rattle.register.proofs.slice.enter.Goals as goal
 
 pub returns : goal.returns
 returns g c =
-    turned_right c.args.records.now c.rotate-right.new.self c.args.count c.args.at c.args.new (omega arith) (omega arith)
-    c.rotate-right.ensures.after
+    turned_right c.args.records.now c.rotate_right.new.self c.args.count c.args.at c.args.new (omega arith) (omega arith)
+    c.rotate_right.ensures.after

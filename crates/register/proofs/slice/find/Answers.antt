@@ -5,12 +5,12 @@ use Rattle.register.proofs.slice.find.Goals as goal
 
 pub returns-then-at-register : goal.returns-then-at-register
 returns-then-at-register g c =
-    let is : g.row.T.Denot → Bool = λ x. g.Key-as-Key.same (g.T.Keyed.keyed x) c.args.key.now in
-    found_there is c.args.count c.args.records.now c.first-places-register.result.now c.place-of-at.result c.first-places-register.ensures c.place-of-at.ensures.place
+    let is : g.row.T.Denot → Bool = λ x. g.T.Key.Key.same (g.T.Keyed.keyed x) c.args.key.now in
+    found_there is c.args.count c.args.records.now c.first_places-register.result.now c.place_of-at.result c.first_places-register.ensures c.place_of-at.ensures.place
     c.index-register-at.result c.if-at-register.true c.index-register-at.is
 
 pub returns-else-at-register : goal.returns-else-at-register
 returns-else-at-register g c =
-    let is : g.row.T.Denot → Bool = λ x. g.Key-as-Key.same (g.T.Keyed.keyed x) c.args.key.now in
-    found_nowhere is c.args.count c.args.records.now c.first-places-register.result.now c.place-of-at.result c.first-places-register.ensures c.place-of-at.ensures.place
+    let is : g.row.T.Denot → Bool = λ x. g.T.Key.Key.same (g.T.Keyed.keyed x) c.args.key.now in
+    found_nowhere is c.args.count c.args.records.now c.first_places-register.result.now c.place_of-at.result c.first_places-register.ensures c.place_of-at.ensures.place
     c.if-at-register.false

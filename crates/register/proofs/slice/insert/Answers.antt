@@ -7,7 +7,7 @@ use Rattle.register.proofs.slice.insert.Goals as goal
 
 pub returns-then-records-count : goal.returns-then-records-count
 returns-then-records-count g c =
-    let is : g.row.T.Denot → Bool = λ x. g.Key-as-Key.same (g.T.Keyed.keyed x) (g.T.Keyed.keyed c.args.new) in
+    let is : g.row.T.Denot → Bool = λ x. g.T.Key.Key.same (g.T.Keyed.keyed x) (g.T.Keyed.keyed c.args.new) in
     let none : some is (take c.args.count c.args.records.now) ≡ false = sym c.replace.ensures.there ∙ c.if-replace.false in
     let same : c.replace.new.records ≡ c.args.records.now = c.replace.ensures.after ∙ unreplaced_slice is c.args.count c.args.records.now c.args.new none in
     record {
@@ -18,18 +18,18 @@ returns-then-records-count g c =
 
 pub returns : goal.returns
 returns g c =
-    let is : g.row.T.Denot → Bool = λ x. g.Key-as-Key.same (g.T.Keyed.keyed x) (g.T.Keyed.keyed c.args.new) in
-    let above : g.row.T.Denot → Bool = λ x. g.Key-as-Key.below (g.T.Keyed.keyed c.args.new) (g.T.Keyed.keyed x) in
+    let is : g.row.T.Denot → Bool = λ x. g.T.Key.Key.same (g.T.Keyed.keyed x) (g.T.Keyed.keyed c.args.new) in
+    let above : g.row.T.Denot → Bool = λ x. g.T.Key.Key.below (g.T.Keyed.keyed c.args.new) (g.T.Keyed.keyed x) in
     let none : some is (take c.args.count c.args.records.now) ≡ false = sym c.replace.ensures.there ∙ c.if-replace.false in
     let same : c.replace.new.records ≡ c.args.records.now = c.replace.ensures.after ∙ unreplaced_slice is c.args.count c.args.records.now c.args.new none in
-    let place : c.place-above-at.result ≡ spot above c.first-places.result.now =
-    c.place-above-at.ensures.place ∙ ap (λ k. spot (λ x. g.Key-as-Key.below k (g.T.Keyed.keyed x)) c.first-places.result.now) c.key.ensures in
+    let place : c.place_above-at.result ≡ spot above c.first_places.result.now =
+    c.place_above-at.ensures.place ∙ ap (λ k. spot (λ x. g.T.Key.Key.below k (g.T.Keyed.keyed x)) c.first_places.result.now) c.key.ensures in
     record {
       how = insertion_added _ c.args.count (length c.args.records.now) none (subst (λ s. c.args.count < length s) same c.if-records-count.false);
-      after = added_slice above c.args.count c.replace.new.records c.first-places.result.now c.place-above-at.result c.first-places.ensures place
+      after = added_slice above c.args.count c.replace.new.records c.first_places.result.now c.place_above-at.result c.first_places.ensures place
           c.args.new c.enter.new.records c.enter.ensures
           ∙ ap (λ s. entered above c.args.new (take c.args.count s) ++ drop (c.args.count + 1) s) same;
-      register = added_register above c.args.count c.replace.new.records c.first-places.result.now c.place-above-at.result c.first-places.ensures place
+      register = added_register above c.args.count c.replace.new.records c.first_places.result.now c.place_above-at.result c.first_places.ensures place
           c.args.new c.enter.new.records c.if-records-count.false c.enter.ensures
           ∙ ap (λ s. entered above c.args.new (take c.args.count s)) same;
     }

@@ -5,5 +5,5 @@ use Rattle.register.proofs.slice.place_above.Given as goal
 
 abbrev pub invariant-loop-i : goal.invariant-loop-i
 invariant-loop-i g l =
-    l.i + spot (λ x. g.Key-as-Key.below l.key (g.T.Keyed.keyed x)) (drop l.i l.records) ≡
-    spot (λ x. g.Key-as-Key.below l.key (g.T.Keyed.keyed x)) l.records
+    l.i + spot (λ x. g.T.Key.Key.below l.key (g.T.Keyed.keyed x)) (drop l.i l.records) ≡
+    spot (λ x. g.T.Key.Key.below l.key (g.T.Keyed.keyed x)) l.records

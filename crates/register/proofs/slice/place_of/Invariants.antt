@@ -5,5 +5,5 @@ use Rattle.register.proofs.slice.place_of.Given as goal
 
 abbrev pub invariant-loop-i : goal.invariant-loop-i
 invariant-loop-i g l =
-    l.i + spot (λ x. g.Key-as-Key.same (g.T.Keyed.keyed x) l.key) (drop l.i l.records) ≡
-    spot (λ x. g.Key-as-Key.same (g.T.Keyed.keyed x) l.key) l.records
+    l.i + spot (λ x. g.T.Key.Key.same (g.T.Keyed.keyed x) l.key) (drop l.i l.records) ≡
+    spot (λ x. g.T.Key.Key.same (g.T.Keyed.keyed x) l.key) l.records

@@ -20,7 +20,7 @@ returns-then-other-eq0 t c =
 
 pub returns : goal.returns
 returns t c =
-    let e : c.at-or-above.result ≡ at_or_above c.args.role c.args.other =
-    c.at-or-above.ensures.value ∙ ap (at_or_above c.args.role) c.parent-of.ensures
+    let e : c.at_or_above.result ≡ at_or_above c.args.role c.args.other =
+    c.at_or_above.ensures.value ∙ ap (at_or_above c.args.role) c.parent_of.ensures
     ∙ met_higher c.args.role c.args.other c.if-role-other.false c.if-other-eq0.false in
     record { value = e; meaning = decided _ _ _ e }

@@ -1,4 +1,4 @@
 use Rattle.usage.proofs.role.+at_or_above.Given as goal
 
-abbrev pub decreases-at-or-above : goal.decreases-at-or-above
-decreases-at-or-above l = l.other
+abbrev pub decreases-at_or_above : goal.decreases-at_or_above
+decreases-at_or_above l = l.other

@@ -26,7 +26,7 @@ abbrev pub Counted : List Access → List Lot → Type 0
 Counted xs lots = (l : Lot) → In l lots → l.heads ≡ open_at l.code xs
 
 -- heads change, and no code does
-lotted_heads : (xs : List Access) (c : List ℕ) (g : ℕ → ℕ) (lots : List Lot) → Lotted xs lots →
+pub lotted_heads : (xs : List Access) (c : List ℕ) (g : ℕ → ℕ) (lots : List Lot) → Lotted xs lots →
     Lotted xs (changed (is_lot c) (λ l. with_heads (g l.heads) l) lots)
 lotted_heads xs c g lots known a i = some_changed (is_lot a.lot) (is_lot c) (λ l. with_heads (g l.heads) l) lots (λ _ _ e. e) (known a i)
 

@@ -169,7 +169,7 @@ badges_moved s (DropBadge n) h = without_rises number_of numbers (is_badge n) s.
 badges_moved s (DropLot c) h = h
 
 -- lots, whose heads are raised and lowered
-heads_rise : (c : List ℕ) (f : Lot → ℕ) (lots : List Lot) → RisingLots lots → RisingLots (changed (is_lot c) (λ l. with_heads (f l) l) lots)
+pub heads_rise : (c : List ℕ) (f : Lot → ℕ) (lots : List Lot) → RisingLots lots → RisingLots (changed (is_lot c) (λ l. with_heads (f l) l) lots)
 heads_rise c f lots h = changed_rises code_of codes (is_lot c) (λ l. with_heads (f l) l) (λ _ _. refl) lots h
 
 pub lots_close : (a : Access) (s : State) → RisingLots s.scene.lots → RisingLots (close a s).scene.lots

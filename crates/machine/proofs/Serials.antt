@@ -46,7 +46,7 @@ apart_close a s h = record {
 }
 
 -- an access under the next serial
-apart_opened : (a : Access) (s : State) → a.serial ≡ s.next_serial → ApartSerials s → ApartSerials (opened a s)
+pub apart_opened : (a : Access) (s : State) → a.serial ≡ s.next_serial → ApartSerials s → ApartSerials (opened a s)
 apart_opened a s e h = record {
   apart = apart_append serial_of s.scene.accesses a (λ b i k. unmet b (h.below b i) k) h.apart;
   below = all_append (λ b. b.serial < s.next_serial + 1) a s.scene.accesses (λ b i. omega (arith, h.below b i)) (omega arith);
@@ -56,7 +56,7 @@ apart_opened a s e h = record {
     unmet b l k = omega arith
 
 -- a change of an access that keeps its serial
-apart_accesses :
+pub apart_accesses :
     (p : Access → Bool) (f : Access → Access) → ((a : Access) → (f a).serial ≡ a.serial) →
     (xs : List Access) (next : ℕ) → OwnSerials xs next → OwnSerials (changed p f xs) next
 apart_accesses p f keeps xs next h = record {

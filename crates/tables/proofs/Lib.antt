@@ -1,5 +1,5 @@
 pub mod Members
 pub mod Replaced
 pub mod Prices
-pub mod Heads
 pub mod Making
+pub mod Keeping

@@ -1,3 +1,5 @@
 pub mod Tables
 pub mod Sought
 pub mod Made
+pub mod Kept
+pub mod KeptProps

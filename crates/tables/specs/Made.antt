@@ -8,7 +8,15 @@ use Rattle.machine.specs.Journal.{new_scene}
 use Rattle.machine.specs.Rising.{badge_below, lot_below, InOrder}
 use Rattle.machine.specs.Fitting.{RegistersFit}
 use Rattle.tables.specs.declared.table.Tables.{Tables}
+use Rattle.tables.specs.declared.table.make.Unmade.{Unmade}
+use Rattle.tables.specs.declared.table.make.Unmade.TheVariants.{OutOfRange, RegisterFull, OutOfOrder}
 use Rattle.tables.specs.Tables.{scene_of}
+
+-- the number of each reason why none are made
+abbrev pub unmade_number : Unmade → ℕ
+unmade_number OutOfRange = 2
+unmade_number RegisterFull = 11
+unmade_number OutOfOrder = 20
 
 abbrev pub badge_fits : Badge → Bool
 badge_fits b = badge_number_fits b.number && (attribute_fits b.level && (attribute_fits b.role && attribute_fits b.account))

@@ -1,10 +1,13 @@
 -- What the tables hold, in the machine's words. Assumes nothing.
-use Rattle.std.specs.Prelude.{◌≡◌, ℕ, false, cond, take, Some, None, Ok, Err, Option, Result, ◌==◌}
+use Rattle.std.specs.Prelude.{◌≡◌, ℕ, false, cond, [], take, Ok, Err, Result, Some, None, Option, ◌==◌}
+use Rattle.register.specs.Lists.{first}
 use Rattle.records.specs.Numbers.{returned_number}
+use Rattle.records.specs.declared.Access.{Access}
 use Rattle.records.specs.declared.Lot.{Lot}
 use Rattle.records.specs.declared.Returned.{Returned}
-use Rattle.usage.specs.Books.{Books}
-use Rattle.machine.specs.State.{Scene, State}
+use Rattle.usage.specs.Books.{Books, books_of}
+use Rattle.machine.specs.State.{Scene, State, is_access}
+use Rattle.machine.specs.Sweep.{strike}
 use Rattle.tables.specs.declared.table.Tables.{Tables}
 
 -- the places that are taken, and the room
@@ -20,6 +23,10 @@ scene_of t = record {
 abbrev pub state_of : Tables → Books → State
 state_of t books = record { scene = scene_of t; next_serial = t.next_serial; books = books }
 
+-- the same with no books, which the checks of an open do not read
+abbrev pub unbooked : Tables → State
+unbooked t = state_of t (books_of [] [] [] [])
+
 -- what checks leave that returned a number: the one where they passed, else the other
 abbrev pub if_passed : {X : Type 0} → ℕ → X → X → X
 if_passed returned after before = cond (returned == 0) after before
@@ -33,3 +40,11 @@ Checked n x (Err e) = (returned_number e ≡ n) × ((n == 0) ≡ false)
 abbrev pub heads_of : Option Lot → ℕ
 heads_of None = 0
 heads_of (Some l) = l.heads
+
+-- the scene once the access of a serial is struck, where it is open
+abbrev pub struck_one : Option Access → Scene → Scene
+struck_one None s = s
+struck_one (Some a) s = strike a s
+
+abbrev pub struck : ℕ → Scene → Scene
+struck serial s = struck_one (first (is_access serial) s.accesses) s

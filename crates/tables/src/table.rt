@@ -1,19 +1,19 @@
 //! The tables of a monitor.
-ghost use Rattle.std.specs.Prelude.{◌≡◌, ℕ, ◌≤◌, length, take};
-ghost use Rattle.records.specs.declared.Lot.{Lot};
-ghost use Rattle.register.specs.Lists.{In};
+ghost use Rattle.std.specs.Prelude.{◌≡◌, ◌≤◌, length, take};
+ghost use Rattle.tables.specs.Kept.{Kept};
+ghost use Rattle.tables.specs.KeptProps.{kept_props};
 
 use records::{Access, Badge, Lot, Room};
 
 pub mod access;
 pub mod find;
 pub mod make;
-pub mod register;
+pub mod registers;
 pub mod room;
 pub mod search;
 
 /// The registers of badges and lots, the open accesses, the room and the next serial. The first places of each array
-/// are taken, and the others free. A lot's heads rise with a serial only.
+/// are taken, and the others free. Heads are the accesses open at a lot, so that they fit a byte.
 #[derive(Drop)]
 pub struct Tables {
     badges: [Badge; 64],
@@ -24,7 +24,7 @@ pub struct Tables {
     access_count: usize,
     room: Room,
     next_serial: u32,
-    ghost heads_fit: { (l : Lot) → In l (take lot_count lots) → l.heads ≤ next_serial },
+    ghost kept: { Kept (take lot_count lots) (take access_count accesses) next_serial } by { Prim.hlevel kept_props },
     ghost badge_places: { length badges ≡ 64 },
     ghost lot_places: { length lots ≡ 64 },
     ghost access_places: { length accesses ≡ 64 },

@@ -1,15 +1,15 @@
 //! Open accesses: what an open asks for, how an access enters and is struck, and what is noted of it in between.
-ghost use Rattle.std.specs.Prelude.{◌≡◌, ℕ, ◌+◌, ◌≤◌, true, ◌&&◌, length, take, IfOk, if◌then◌else◌, Some, nat_le, nat_lt};
-ghost use Rattle.register.specs.Lists.{In, first};
+ghost use Rattle.std.specs.Prelude.{◌≡◌, ℕ, ◌+◌, ◌≤◌, true, ◌&&◌, length, take, IfOk, if◌then◌else◌, Some, ◌==◌, nat_le, nat_lt};
+ghost use Rattle.register.specs.Lists.{In, first, some};
 ghost use Rattle.records.specs.declared.Lot.{Lot};
 ghost use Rattle.records.specs.Numbers.{right_of, returned_number};
 ghost use Rattle.records.specs.Parts.{price_of};
-ghost use Rattle.machine.specs.State.{is_access, access_of, raise, lower};
-ghost use Rattle.machine.specs.Sweep.{enter, strike};
+ghost use Rattle.machine.specs.State.{is_access, is_lot, access_of, raise, lower};
+ghost use Rattle.machine.specs.Sweep.{enter};
 ghost use Rattle.machine.specs.Checks.{first_applying, open_checks, access_checks, use_checks};
 ghost use Rattle.machine.specs.Lines.{asked};
 ghost use Rattle.machine.specs.Scenes.{use_scene, duty_scene};
-ghost use Rattle.tables.specs.Tables.{scene_of, if_passed, Checked};
+ghost use Rattle.tables.specs.Tables.{scene_of, unbooked, struck, if_passed, Checked};
 
 use crate::table::Tables;
 use crate::table::search::{Sought, is_open};
@@ -28,7 +28,7 @@ impl Tables {
         right: u32,
         units: u32,
     ) -> Result<Access, Returned>
-        ensures { Checked (first_applying (open_checks (scene_of self.now) self.now.next_serial sheet badge lot right units)) (asked (scene_of self.now) badge lot (right_of right) units self.now.next_serial) result }
+        ensures { Checked (first_applying (open_checks (unbooked self.now) sheet badge lot right units)) (asked (scene_of self.now) badge lot (right_of right) units self.now.next_serial) result }
     {
         if sheet < 65 {
             return Err(Returned::ShortSheet);
@@ -143,9 +143,10 @@ impl Tables {
     }
 
     /// An access enters at the last place, its lot has one head more, and the next serial rises. Nothing changes where
-    /// no place or no serial is left; the answer says which.
+    /// no place or no serial is left, where the access is not under the next serial, or where its lot is not in the
+    /// register; the answer says which.
     pub fn enter(&mut self, access: &Access) -> bool
-        ensures entered { result ≡ nat_lt (length (scene_of self.old).accesses) 64 && nat_le self.old.next_serial 1000000000 }
+        ensures entered { result ≡ (nat_lt (length (scene_of self.old).accesses) 64 && (nat_le self.old.next_serial 1000000000 && (access.now.serial == self.old.next_serial && some (is_lot access.now.lot) (scene_of self.old).lots))) }
         ensures scene { scene_of self.new ≡ (if result then enter access.now (scene_of self.old) else scene_of self.old) }
         ensures serial { self.new.next_serial ≡ (if result then self.old.next_serial + 1 else self.old.next_serial) }
     {
@@ -155,6 +156,12 @@ impl Tables {
         if self.next_serial > 1_000_000_000 {
             return false;
         }
+        if access.serial != self.next_serial {
+            return false;
+        }
+        if self.lot(&access.lot).is_none() {
+            return false;
+        }
         raise(&mut self.lots, self.lot_count, &access.lot);
         self.accesses[self.access_count] = *access;
         self.access_count += 1;
@@ -162,21 +169,21 @@ impl Tables {
         true
     }
 
-    /// The access of a serial is struck, and its lot has one head fewer.
-    pub fn strike(&mut self, access: &Access)
-        ensures scene { scene_of self.new ≡ strike access.now (scene_of self.old) }
+    /// The access of a serial is struck, where it is open, and its lot has one head fewer.
+    pub fn strike(&mut self, serial: u32)
+        ensures scene { scene_of self.new ≡ struck serial (scene_of self.old) }
         ensures serial { self.new.next_serial ≡ self.old.next_serial }
     {
-        lower(&mut self.lots, self.lot_count, &access.lot);
-        if remove(&mut self.accesses, self.access_count, &access.serial).is_some() {
+        if let Some(access) = remove(&mut self.accesses, self.access_count, &serial) {
             self.access_count -= 1;
+            lower(&mut self.lots, self.lot_count, &access.lot);
         }
     }
 }
 
 // One head more at the lot of a code.
 fn raise(lots: &mut [Lot], count: usize, code: &[u8; 8])
-    requires { (l : Lot) → In l (take count lots.old) → l.heads ≤ 1000000000 }
+    requires { (l : Lot) → In l (take count lots.old) → l.heads ≤ 64 }
     ensures { take count lots.new ≡ raise code.now (take count lots.old) }
 {
     if let Some(lot) = find(lots, count, code) {

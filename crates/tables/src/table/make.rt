@@ -1,14 +1,21 @@
 //! How tables are made: with a first serial and registers, which are in range, in order and without heads.
 ghost use Rattle.std.specs.Prelude.{◌≡◌, ◌≤◌, Bool, length, take, MatchResult};
 ghost use Rattle.register.specs.Lists.{all};
-ghost use Rattle.records.specs.Numbers.{returned_number};
 ghost use Rattle.machine.specs.Checks.{first_applying};
-ghost use Rattle.tables.specs.Made.{badge_fits, lot_fits, maker_checks, Made};
+ghost use Rattle.tables.specs.Made.{unmade_number, badge_fits, lot_fits, maker_checks, Made};
 
 use crate::table::{NO_BADGE, NO_LOT, Tables};
 use ranges::{attribute_fits, badge_number_fits, code_fits, limit_fits, prices_fit, serial_fits};
-use records::{Access, Badge, Lot, Phase, Returned, Right, Room};
+use records::{Access, Badge, Lot, Phase, Right, Room};
 use register::slice::rises;
+
+/// Why tables are not made.
+#[derive(Clone, Copy, PartialEq, Eq, Debug)]
+pub enum Unmade {
+    OutOfRange,
+    RegisterFull,
+    OutOfOrder,
+}
 
 // What stands in the places of accesses that are free.
 const NO_ACCESS: Access = Access {
@@ -27,29 +34,29 @@ const NO_ACCESS: Access = Access {
 
 impl Tables {
     /// Tables with a first serial, registers, a new room and no access.
-    pub fn new(first_serial: u32, badges: &[Badge], lots: &[Lot]) -> Result<Tables, Returned>
-        ensures { MatchResult result (λ t. (first_applying (maker_checks first_serial badges.now lots.now) ≡ 0) × Made first_serial badges.now lots.now t) (λ e. returned_number e ≡ first_applying (maker_checks first_serial badges.now lots.now)) }
+    pub fn new(first_serial: u32, badges: &[Badge], lots: &[Lot]) -> Result<Tables, Unmade>
+        ensures { MatchResult result (λ t. (first_applying (maker_checks first_serial badges.now lots.now) ≡ 0) × Made first_serial badges.now lots.now t) (λ e. unmade_number e ≡ first_applying (maker_checks first_serial badges.now lots.now)) }
     {
         if !serial_fits(first_serial) {
-            return Err(Returned::OutOfRange);
+            return Err(Unmade::OutOfRange);
         }
         if !all_fit(badges) {
-            return Err(Returned::OutOfRange);
+            return Err(Unmade::OutOfRange);
         }
         if !all_fit(lots) {
-            return Err(Returned::OutOfRange);
+            return Err(Unmade::OutOfRange);
         }
         if badges.len() > 64 {
-            return Err(Returned::RegisterFull);
+            return Err(Unmade::RegisterFull);
         }
         if lots.len() > 64 {
-            return Err(Returned::RegisterFull);
+            return Err(Unmade::RegisterFull);
         }
         if !rises(badges) {
-            return Err(Returned::OutOfOrder);
+            return Err(Unmade::OutOfOrder);
         }
         if !rises(lots) {
-            return Err(Returned::OutOfOrder);
+            return Err(Unmade::OutOfOrder);
         }
         let mut badge_places = [NO_BADGE; 64];
         place(&mut badge_places, badges);

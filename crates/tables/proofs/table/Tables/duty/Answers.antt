@@ -1,9 +1,18 @@
 use Rattle.std.proofs.Common.{take, refl, ap, ◌∙◌, rules}
-use Rattle.machine.specs.State.{with_accesses}
+use Rattle.machine.specs.State.{is_access, with_accesses}
 use Rattle.machine.specs.Scenes.{after_duty}
 use Rattle.tables.specs.Tables.{scene_of}
+use Rattle.tables.proofs.Keeping.{kept_changed, kept_at}
 use Rattle.tables.proofs.Replaced.{access_replaced}
 use Rattle.tables.proofs.table.Tables.duty.Goals as goal
+
+pub invariant_of-self-clause-kept : goal.invariant_of-self-clause-kept
+invariant_of-self-clause-kept c =
+    let xs = take c.args.self.now.access_count c.args.self.now.accesses in
+    kept_at _ _ _ _ _ refl
+    (c.replace.ensures.register ∙ access_replaced (after_duty c.args.self.now.room.clock) xs c.args.serial c.in-Ok.access _ c.in-Ok.ensures.found refl refl)
+    (kept_changed (is_access c.args.serial) (after_duty c.args.self.now.room.clock) (take c.args.self.now.lot_count c.args.self.now.lots) xs c.args.self.now.next_serial
+    (λ _. refl) (λ _. refl) c.args.self.now.kept)
 
 pub returns-in-Ok : goal.returns-in-Ok
 returns-in-Ok c =

@@ -1,34 +1,38 @@
-use Rattle.std.proofs.Common.{◌≡◌, ◌≤◌, true, eqb, take, sym, ap, ◌∙◌, subst, rules}
+use Rattle.std.proofs.Common.{◌≡◌, ◌≤◌, true, eqb, take, ◌+◌, refl, ap, ◌∙◌, rules}
 use Rattle.register.specs.Lists.{some}
 use Rattle.records.specs.declared.Lot.{Lot}
 use Rattle.machine.specs.State.{is_lot, with_lots}
+use Rattle.machine.specs.Scenes.{put_lot}
+use Rattle.machine.proofs.Registers.{new_lot}
 use Rattle.tables.specs.Tables.{scene_of}
 use Rattle.tables.proofs.Replaced.{lot_put_back}
-use Rattle.tables.proofs.Heads.{heads_entered, heads_replaced, heads_known, heads_at}
+use Rattle.tables.proofs.Keeping.{kept_put, kept_at}
 use Rattle.tables.proofs.table.Tables.set_lot.Goals as goal
 
-pub invariant-of-self : goal.invariant-of-self
-invariant-of-self c =
+pub invariant_of-self-clause-kept : goal.invariant_of-self-clause-kept
+invariant_of-self-clause-kept c =
     let lots = take c.args.self.now.lot_count c.args.self.now.lots in
-    let few : c.heads-at.result ≤ c.args.self.now.next_serial =
-    subst (λ n. n ≤ c.args.self.now.next_serial) (sym c.heads-at.ensures) (heads_known c.args.self.now.next_serial c.args.code lots c.args.self.now.heads_fit) in (
-      heads_at _ _ _ c.in-Added.ensures.register
-          (heads_entered c.args.self.now.next_serial _ _ lots few c.args.self.now.heads_fit),
-      search rules,
-    )
+    let asked : Lot = new_lot c.args.code c.args.level c.args.role c.args.stop c.args.limit c.args.prices in
+    let same : c.in-Some.lot ≡ asked = search rules in
+    let put : take (c.args.self.now.lot_count + 1) c.insert.new.records ≡ put_lot asked lots = search rules in
+    kept_at _ _ _ _ _ put refl
+    (kept_put c.args.code c.args.level c.args.role c.args.stop c.args.limit c.args.prices lots (take c.args.self.now.access_count c.args.self.now.accesses)
+    c.args.self.now.next_serial c.args.self.now.kept)
 
-pub invariant-of-self-in-Replaced : goal.invariant-of-self-in-Replaced
-invariant-of-self-in-Replaced c =
+pub invariant_of-self-in-Replaced-clause-kept : goal.invariant_of-self-in-Replaced-clause-kept
+invariant_of-self-in-Replaced-clause-kept c =
     let lots = take c.args.self.now.lot_count c.args.self.now.lots in
-    let few : c.heads-at.result ≤ c.args.self.now.next_serial =
-    subst (λ n. n ≤ c.args.self.now.next_serial) (sym c.heads-at.ensures) (heads_known c.args.self.now.next_serial c.args.code lots c.args.self.now.heads_fit) in (
-      heads_at _ _ _ c.in-Replaced.ensures.register
-          (heads_replaced c.args.self.now.next_serial _ _ lots few c.args.self.now.heads_fit),
-      search rules,
-    )
+    let asked : Lot = new_lot c.args.code c.args.level c.args.role c.args.stop c.args.limit c.args.prices in
+    let same : c.in-Some.lot ≡ asked = search rules in
+    let there : some (is_lot c.args.code) lots ≡ true = search rules in
+    let put : take c.args.self.now.lot_count c.insert.new.records ≡ put_lot asked lots =
+    c.in-Replaced.ensures.register ∙ lot_put_back asked c.in-Some.lot lots c.heads_at.result same there c.heads_at.ensures in
+    kept_at _ _ _ _ _ put refl
+    (kept_put c.args.code c.args.level c.args.role c.args.stop c.args.limit c.args.prices lots (take c.args.self.now.access_count c.args.self.now.accesses)
+    c.args.self.now.next_serial c.args.self.now.kept)
 
-pub invariant-of-self-in-Full : goal.invariant-of-self-in-Full
-invariant-of-self-in-Full c = (heads_at _ _ _ c.in-Full.ensures.register c.args.self.now.heads_fit, search rules)
+pub invariant_of-self-in-Full-clause-kept : goal.invariant_of-self-in-Full-clause-kept
+invariant_of-self-in-Full-clause-kept c = kept_at _ _ _ _ _ c.in-Full.ensures.register refl c.args.self.now.kept
 
 pub returns-in-Replaced : goal.returns-in-Replaced
 returns-in-Replaced c =
@@ -38,6 +42,6 @@ returns-in-Replaced c =
     let there : some (is_lot c.args.code) lots ≡ true = search rules in
     record {
       returned = search rules;
-      scene = ap (with_lots (scene_of c.args.self.now)) (c.in-Replaced.ensures.register ∙ lot_put_back asked c.in-Some.lot lots c.heads-at.result same there c.heads-at.ensures);
+      scene = ap (with_lots (scene_of c.args.self.now)) (c.in-Replaced.ensures.register ∙ lot_put_back asked c.in-Some.lot lots c.heads_at.result same there c.heads_at.ensures);
       serial = search rules;
     }

@@ -1,8 +1,19 @@
-use Rattle.std.proofs.Common.{take, sym, ap, ◌∙◌, rules}
-use Rattle.machine.specs.State.{with_accesses}
+use Rattle.std.proofs.Common.{take, sym, refl, ap, ◌∙◌, rules}
+use Rattle.machine.specs.State.{is_access, with_accesses}
+use Rattle.machine.specs.Scenes.{after_use}
 use Rattle.tables.specs.Tables.{scene_of}
+use Rattle.tables.proofs.Keeping.{kept_changed, kept_at}
 use Rattle.tables.proofs.Replaced.{use_replaced}
 use Rattle.tables.proofs.table.Tables.use_units.Goals as goal
+
+pub invariant_of-self-clause-kept : goal.invariant_of-self-clause-kept
+invariant_of-self-clause-kept c =
+    let xs = take c.args.self.now.access_count c.args.self.now.accesses in
+    kept_at _ _ _ _ _ refl
+    (c.replace.ensures.register
+    ∙ use_replaced xs c.args.serial c.args.units c.args.self.now.room.clock c.from.result c.in-Some.access (sym c.access.ensures ∙ c.in-Some.is) c.from.ensures)
+    (kept_changed (is_access c.args.serial) (after_use c.args.units c.args.self.now.room.clock) (take c.args.self.now.lot_count c.args.self.now.lots) xs
+    c.args.self.now.next_serial (λ _. refl) (λ _. refl) c.args.self.now.kept)
 
 pub returns : goal.returns
 returns c =

@@ -8,8 +8,8 @@ pub returns-in-Some : goal.returns-in-Some
 returns-in-Some c =
     c.replace.ensures.register
     ∙ lot_replaced (λ l. with_heads (l.heads - 1) l) (take c.args.count c.args.lots.now) c.args.code.now c.in-Some.lot _
-    (sym c.find.ensures ∙ c.in-Some.is) (ap (λ n. with_heads n c.in-Some.lot) c.saturating-sub.ensures) refl
+    (sym c.find.ensures ∙ c.in-Some.is) (ap (λ n. with_heads n c.in-Some.lot) c.saturating_sub.ensures) refl
 
-pub returns-in-default : goal.returns-in-default
-returns-in-default c =
-    sym (changed_none (is_lot c.args.code.now) (λ l. with_heads (l.heads - 1) l) (take c.args.count c.args.lots.now) (sym c.find.ensures ∙ c.in-default.is))
+pub returns-in_default : goal.returns-in_default
+returns-in_default c =
+    sym (changed_none (is_lot c.args.code.now) (λ l. with_heads (l.heads - 1) l) (take c.args.count c.args.lots.now) (sym c.find.ensures ∙ c.in_default.is))

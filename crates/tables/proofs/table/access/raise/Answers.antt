@@ -4,8 +4,8 @@ use Rattle.machine.specs.State.{is_lot, with_heads}
 use Rattle.tables.proofs.Replaced.{lot_replaced}
 use Rattle.tables.proofs.table.access.raise.Goals as goal
 
-pub overflow-add-lot : goal.overflow-add-lot
-overflow-add-lot c =
+pub overflow_add-lot : goal.overflow_add-lot
+overflow_add-lot c =
     let found = first_in (is_lot c.args.code.now) (take c.args.count c.args.lots.now) c.in-Some.lot (sym c.find.ensures ∙ c.in-Some.is) in
     omega (arith, c.requires c.in-Some.lot found.0)
 
@@ -15,6 +15,6 @@ returns-in-Some c =
     ∙ lot_replaced (λ l. with_heads (l.heads + 1) l) (take c.args.count c.args.lots.now) c.args.code.now c.in-Some.lot _
     (sym c.find.ensures ∙ c.in-Some.is) refl refl
 
-pub returns-in-default : goal.returns-in-default
-returns-in-default c =
-    sym (changed_none (is_lot c.args.code.now) (λ l. with_heads (l.heads + 1) l) (take c.args.count c.args.lots.now) (sym c.find.ensures ∙ c.in-default.is))
+pub returns-in_default : goal.returns-in_default
+returns-in_default c =
+    sym (changed_none (is_lot c.args.code.now) (λ l. with_heads (l.heads + 1) l) (take c.args.count c.args.lots.now) (sym c.find.ensures ∙ c.in_default.is))

@@ -128,7 +128,7 @@ impl Tables {
     }
 
     // The heads of the lot of a code, 0 where there is none.
-    fn heads_at(&self, code: &[u8; 8]) -> u32
+    fn heads_at(&self, code: &[u8; 8]) -> u8
         ensures { result ≡ heads_of (first (is_lot code.now) (scene_of self.now).lots) }
     {
         match self.lot(code) {

@@ -1,7 +1,8 @@
 -- What a call answers, from its checks, its change and the sweep. Assumes nothing.
-use Rattle.std.proofs.Common.{◌≡◌, ℕ, suc, ◌+◌, ◌<◌, ◌≤◌, Bool, false, cond, not, eqb, ltb, leb, List, [], ◌∷◌, ◌++◌, length, drop, set, Some, None, Option, sym, refl, ap, ◌∙◌, subst, add-one, one-add, arith}
+use Rattle.std.proofs.Common.{◌≡◌, ℕ, suc, ◌+◌, ◌<◌, ◌≤◌, Bool, true, false, cond, not, eqb, ltb, leb, List, [], ◌∷◌, ◌++◌, length, drop, set, Some, None, Option, sym, refl, ap, ◌∙◌, subst, add-one, one-add, arith}
 use Rattle.std.proofs.lemmas.Bool.Decides.{nat_tests}
-use Rattle.register.specs.Tests.{by_test, eqb_equal, eqb_other}
+use Rattle.register.specs.Lists.{some}
+use Rattle.register.specs.Tests.{by_test, eqb_equal, eqb_other, not_refused}
 use Rattle.records.specs.Numbers.{returned_number}
 use Rattle.records.specs.declared.Access.{Access}
 use Rattle.records.specs.declared.Answer.{Answer}
@@ -9,9 +10,9 @@ use Rattle.records.specs.declared.Line.{Line}
 use Rattle.records.specs.declared.Kind.TheVariants.{Denied}
 use Rattle.records.specs.declared.Call.TheVariants.{Grant}
 use Rattle.records.specs.declared.Returned.{Returned}
-use Rattle.records.specs.declared.Returned.TheVariants.{Accepted, ShortSheet, OutOfRange, NoBadge, NoLot, NoAccess, AlreadyOpen, AccessesFull, SerialsSpent, QuestionFails, CreditShort, RegisterFull, InUse, UnitsSpent, GrantTooLarge, ClockSpent, HoldMismatch, OutOfOrder}
+use Rattle.records.specs.declared.Returned.TheVariants.{Accepted, ShortSheet, OutOfRange, NoBadge, NoLot, NoAccess, AlreadyOpen, AccessesFull, SerialsSpent, QuestionFails, CreditShort, RegisterFull, InUse, UnitsSpent, GrantTooLarge, ClockSpent, HoldMismatch}
 use Rattle.usage.specs.Books.{Books, after_add, add_returns, add_leaves, after_hold, hold_returns, hold_leaves}
-use Rattle.machine.specs.State.{Policy, Scene, State, situation, hold_of, with_scene}
+use Rattle.machine.specs.State.{Policy, Scene, State, is_lot, situation, hold_of, with_scene}
 use Rattle.machine.specs.Lines.{opening_line}
 use Rattle.machine.specs.Sweep.{sweep}
 use Rattle.machine.specs.Checks.{first_applying, open_checks, grant_checks}
@@ -116,15 +117,25 @@ grant_call p s account amount returned sheet_lines books a after sheet new_sheet
     (finished p s (with_grant account amount s) (state s.scene s.next_serial books) returned moved
     ∙ ap (λ k. unless_refused k s (accepted 0 [] (sweep p (with_grant account amount s)))) (number ∙ first)) h
 
--- an open that no check refuses has a sheet, a place and a serial
-pub open_passed : (s : Scene) (next_serial sheet n : ℕ) (c : List ℕ) (r units : ℕ) → first_applying (open_checks s next_serial sheet n c r units) ≡ 0 →
-    (65 ≤ sheet) × (length s.accesses < 64) × (next_serial ≤ 1000000000)
-open_passed s next_serial sheet n c r units e =
-    let none = none_apply (open_checks s next_serial sheet n c r units) refl e in
+-- an open that no check refuses has a sheet, a place, a serial and a lot
+pub record OpenPassed (s : State) (sheet : ℕ) (c : List ℕ) : Type 0 where
+  pub room : 65 ≤ sheet
+  pub place : length s.scene.accesses < 64
+  pub serial : s.next_serial ≤ 1000000000
+  pub lot : some (is_lot c) s.scene.lots ≡ true
+
+pub open_passed : (s : State) (sheet n : ℕ) (c : List ℕ) (r units : ℕ) → first_applying (open_checks s sheet n c r units) ≡ 0 → OpenPassed s sheet c
+open_passed s sheet n c r units e =
+    let none = none_apply (open_checks s sheet n c r units) refl e in
     let long : ltb sheet 65 ≡ false = none.0 in
-    let place : leb 64 (length s.accesses) ≡ false = none.1.1.1.1.1.0 in
-    let serial : ltb 1000000000 next_serial ≡ false = none.1.1.1.1.1.1.0 in
-    (grind (arith, nat_tests), grind (arith, nat_tests), grind (arith, nat_tests))
+    let free : leb 64 (length s.scene.accesses) ≡ false = none.1.1.1.1.1.0 in
+    let left : ltb 1000000000 s.next_serial ≡ false = none.1.1.1.1.1.1.0 in
+    record {
+      room = grind (arith, nat_tests);
+      place = grind (arith, nat_tests);
+      serial = grind (arith, nat_tests);
+      lot = not_refused (some (is_lot c) s.scene.lots) none.1.1.1.0;
+    }
 
 -- only what is accepted returns 0
 pub not_zero : (r : Returned) → (r ≡ Accepted → ⊥) → returned_number r ≡ 0 → ⊥
@@ -145,4 +156,3 @@ not_zero UnitsSpent other e = omega (arith, e)
 not_zero GrantTooLarge other e = omega (arith, e)
 not_zero ClockSpent other e = omega (arith, e)
 not_zero HoldMismatch other e = omega (arith, e)
-not_zero OutOfOrder other e = omega (arith, e)

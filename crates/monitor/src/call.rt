@@ -1,5 +1,8 @@
 //! The calls. Each is lent a sheet, and answers four numbers.
-ghost use Rattle.std.specs.Prelude.{◌≡◌, ◌<◌, ◌≤◌, [], ◌∷◌, length};
+ghost use Rattle.std.specs.Prelude.{◌≡◌, ◌<◌, ◌≤◌, true, Some, [], ◌∷◌, length};
+ghost use Rattle.register.specs.Lists.{first, some};
+ghost use Rattle.machine.specs.State.{is_access, is_lot};
+ghost use Rattle.tables.specs.Tables.{scene_of};
 ghost use Rattle.records.specs.Numbers.{returned_number};
 ghost use Rattle.records.specs.declared.Kind.TheVariants.{Opened, Ended};
 ghost use Rattle.records.specs.declared.Call.TheVariants.{Open, Use, Duty, End, Time, SetRoom, Grant, SetBadge, SetLot, DropBadge, DropLot};
@@ -211,9 +214,11 @@ impl<R: Rule, O: Order, P: Purse> Monitor<R, O, P> {
 
     // The opening question is put, then the purse holds, and the access is opened.
     fn decide(&mut self, sheet: &mut [Line], access: &Access) -> Answer
-        requires in_bounds { 65 ≤ length sheet.old }
-        requires self_len_bound { length (state_by P.Purse.books self.old).scene.accesses < 64 }
-        requires next_serial_bound { self.old.tables.next_serial ≤ 1000000000 }
+        requires room { 65 ≤ length sheet.old }
+        requires place { length (state_by P.Purse.books self.old).scene.accesses < 64 }
+        requires serial { self.old.tables.next_serial ≤ 1000000000 }
+        requires next { access.now.serial ≡ self.old.tables.next_serial }
+        requires lot { some (is_lot access.now.lot) (scene_of self.old.tables).lots ≡ true }
         ensures step { Answered (unless_denied (open_denial (policy_by R.Rule.opening R.Rule.staying O.Order.before self.old) (state_by P.Purse.books self.old) access.now) (state_by P.Purse.books self.old) (accepted access.now.serial (opening_line Opened access.now.serial (state_by P.Purse.books self.old).scene.room.clock 0 access.now ∷ []) (sweep (policy_by R.Rule.opening R.Rule.staying O.Order.before self.old) (opened access.now (state_by P.Purse.books self.old))))) result (state_by P.Purse.books self.new) sheet.old sheet.new }
         ensures rule { self.new.rule ≡ self.old.rule }
         ensures order { self.new.order ≡ self.old.order }
@@ -235,9 +240,11 @@ impl<R: Rule, O: Order, P: Purse> Monitor<R, O, P> {
 
     // An access whose hold is held is opened.
     fn admit(&mut self, sheet: &mut [Line], access: &Access) -> Answer
-        requires in_bounds { 65 ≤ length sheet.old }
-        requires self_len_bound { length (state_by P.Purse.books self.old).scene.accesses < 64 }
-        requires next_serial_bound { self.old.tables.next_serial ≤ 1000000000 }
+        requires room { 65 ≤ length sheet.old }
+        requires place { length (state_by P.Purse.books self.old).scene.accesses < 64 }
+        requires serial { self.old.tables.next_serial ≤ 1000000000 }
+        requires next { access.now.serial ≡ self.old.tables.next_serial }
+        requires lot { some (is_lot access.now.lot) (scene_of self.old.tables).lots ≡ true }
         ensures step { Answered (accepted access.now.serial (opening_line Opened access.now.serial (state_by P.Purse.books self.old).scene.room.clock 0 access.now ∷ []) (sweep (policy_by R.Rule.opening R.Rule.staying O.Order.before self.old) (entered_under access.now (state_by P.Purse.books self.old)))) result (state_by P.Purse.books self.new) sheet.old sheet.new }
         ensures rule { self.new.rule ≡ self.old.rule }
         ensures order { self.new.order ≡ self.old.order }
@@ -256,7 +263,8 @@ impl<R: Rule, O: Order, P: Purse> Monitor<R, O, P> {
 
     // An open access is closed by a line of its end.
     fn end_access(&mut self, sheet: &mut [Line], access: &Access) -> Answer
-        requires { 65 ≤ length sheet.old }
+        requires room { 65 ≤ length sheet.old }
+        requires open_now { first (is_access access.now.serial) (scene_of self.old.tables).accesses ≡ Some access.now }
         ensures step { Answered (accepted 0 (closing_line Ended (state_by P.Purse.books self.old).scene.room.clock 0 access.now ∷ []) (sweep (policy_by R.Rule.opening R.Rule.staying O.Order.before self.old) (close access.now (state_by P.Purse.books self.old)))) result (state_by P.Purse.books self.new) sheet.old sheet.new }
         ensures rule { self.new.rule ≡ self.old.rule }
         ensures order { self.new.order ≡ self.old.order }

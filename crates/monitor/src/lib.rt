@@ -1,18 +1,21 @@
 //! The monitor over any rule, order and purse: its calls, each proved to be the machine's step.
 #![tactic(auto)]
 
-ghost use Rattle.std.specs.Prelude.{◌≡◌, ◌+◌, ◌≤◌, length, MatchResult};
+ghost use Rattle.std.specs.Prelude.{◌≡◌, ◌+◌, ◌≤◌, Some, length, MatchResult};
 ghost use Rattle.machine.specs.Sweep.{close, sweep};
-ghost use Rattle.records.specs.Numbers.{returned_number};
 ghost use Rattle.machine.specs.Checks.{first_applying};
 ghost use Rattle.machine.specs.Report.{questions_of};
-ghost use Rattle.tables.specs.Made.{maker_checks, Made};
+ghost use Rattle.tables.specs.Made.{unmade_number, maker_checks, Made};
+ghost use Rattle.tables.specs.Tables.{scene_of};
+ghost use Rattle.register.specs.Lists.{first};
+ghost use Rattle.machine.specs.State.{is_access};
 ghost use Rattle.monitor.specs.Answered.{policy_by, state_by, SweptBy};
 
 use crate::sweep::first_failing;
-use records::{Access, Badge, Kind, Line, Lot, Returned};
+use records::{Access, Badge, Kind, Line, Lot};
 use tables::line::{charge_of, closing_line, hold_of};
 use tables::table::Tables;
+use tables::table::make::Unmade;
 use usage::order::Order;
 use usage::purse::Purse;
 use usage::rule::Rule;
@@ -39,8 +42,8 @@ impl<R: Rule + Drop, O: Order + Drop, P: Purse + Drop> Monitor<R, O, P> {
         rule: R,
         order: O,
         purse: P,
-    ) -> Result<Monitor<R, O, P>, Returned>
-        ensures { MatchResult result (λ m. (first_applying (maker_checks first_serial badges.now lots.now) ≡ 0) × Made first_serial badges.now lots.now m.tables × (m.rule ≡ rule) × (m.order ≡ order) × (m.purse ≡ purse)) (λ e. returned_number e ≡ first_applying (maker_checks first_serial badges.now lots.now)) }
+    ) -> Result<Monitor<R, O, P>, Unmade>
+        ensures { MatchResult result (λ m. (first_applying (maker_checks first_serial badges.now lots.now) ≡ 0) × Made first_serial badges.now lots.now m.tables × (m.rule ≡ rule) × (m.order ≡ order) × (m.purse ≡ purse)) (λ e. unmade_number e ≡ first_applying (maker_checks first_serial badges.now lots.now)) }
     {
         match Tables::new(first_serial, badges, lots) {
             Ok(tables) => Ok(Monitor {
@@ -69,13 +72,14 @@ impl<R: Rule, O: Order, P: Purse> Monitor<R, O, P> {
         &self.purse
     }
 
-    // Closes an access: its hold is settled, its lot has one head fewer, and it is struck.
+    // Closes an open access: its hold is settled, its lot has one head fewer, and it is struck.
     fn close(&mut self, access: &Access)
+        requires { first (is_access access.now.serial) (scene_of self.old.tables).accesses ≡ Some access.now }
         ensures state { state_by P.Purse.books self.new ≡ close access.now (state_by P.Purse.books self.old) }
         ensures rule { self.new.rule ≡ self.old.rule }
         ensures order { self.new.order ≡ self.old.order }
     {
-        self.tables.strike(access);
+        self.tables.strike(access.serial);
         let _ = self.purse.settle(
             u32::from(access.account),
             hold_of(access),

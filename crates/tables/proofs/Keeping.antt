@@ -88,6 +88,10 @@ kept_struck a lots xs next this_one h = record {
 pub found_under : (serial : ℕ) (xs : List Access) (a : Access) → first (is_access serial) xs ≡ Some a → a.serial ≡ serial
 found_under serial xs a e = eqb_equal a.serial serial (first_in (is_access serial) xs a e).1
 
+-- and is found by its own
+pub found_again : (serial : ℕ) (xs : List Access) (a : Access) → first (is_access serial) xs ≡ Some a → first (is_access a.serial) xs ≡ Some a
+found_again serial xs a e = subst (λ (n : ℕ). first (is_access n) xs ≡ Some a) (sym (found_under serial xs a e)) e
+
 -- heads are no more than the accesses that are open
 pub heads_few : (lots : List Lot) (xs : List Access) (next : ℕ) → length xs ≤ 64 → Kept lots xs next → (l : Lot) → In l lots → l.heads ≤ 64
 heads_few lots xs next few h l i = omega (arith, h.heads_counted l i, open_at_most l.code xs)

@@ -10,8 +10,8 @@ returns-in-SetLot g c =
     let p : Policy = policy_by g.R.Rule.opening g.R.Rule.staying g.O.Order.before c.args.self.now in
     let s : State = state_by g.P.Purse.books c.args.self.now in
     record {
-      step = subst (λ (call : Call). Answered (step p s (length c.args.sheet.now) call) c.set-lot.result (state_by g.P.Purse.books c.set-lot.new.self)
-          c.args.sheet.now c.set-lot.new.sheet) (sym c.in-SetLot.is) c.set-lot.ensures.step;
-      rule = c.set-lot.ensures.rule;
-      order = c.set-lot.ensures.order;
+      step = subst (λ (call : Call). Answered (step p s (length c.args.sheet.now) call) c.set_lot.result (state_by g.P.Purse.books c.set_lot.new.self)
+          c.args.sheet.now c.set_lot.new.sheet) (sym c.in-SetLot.is) c.set_lot.ensures.step;
+      rule = c.set_lot.ensures.rule;
+      order = c.set_lot.ensures.order;
     }

@@ -4,7 +4,7 @@ use Rattle.records.specs.declared.Access.{Access}
 use Rattle.machine.specs.State.{Scene, is_access}
 use Rattle.machine.specs.Sweep.{strike}
 use Rattle.tables.specs.Tables.{scene_of, struck, struck_one}
-use Rattle.tables.proofs.Keeping.{kept_struck, kept_at, found_under}
+use Rattle.tables.proofs.Keeping.{kept_struck, kept_at, found_under, found_again}
 use Rattle.tables.proofs.table.Tables.strike.Goals as goal
 use Rattle.tables.proofs.table.Tables.strike.Goals.{After-lower}
 
@@ -19,7 +19,7 @@ taken serial xs rest a found gone =
     let same : a.serial ≡ serial = found_under serial xs a found in
     record {
       found = found;
-      under = subst (λ (n : ℕ). first (is_access n) xs ≡ Some a) (sym same) found;
+      under = found_again serial xs a found;
       gone = gone ∙ ap (λ n. without (is_access n) xs) (sym same);
     }
 

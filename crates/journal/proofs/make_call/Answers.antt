@@ -14,16 +14,16 @@ returns g c =
     let p : Policy = policy_by g.R.Rule.opening g.R.Rule.staying g.O.Order.before c.args.monitor.now in
     let s : State = state_by g.P.Purse.books c.args.monitor.now in
     let after : State = state_by g.P.Purse.books c.apply-answer.new.self in
-    let answered : Answered (step p s 65 c.args.call) c.apply-answer.result after c.deref-mut.result.now c.apply-answer.new.sheet =
-    subst (λ (n : ℕ). Answered (step p s n c.args.call) c.apply-answer.result after c.deref-mut.result.now c.apply-answer.new.sheet)
-    (c.deref-mut.ensures.len ∙ c.in-ok-lines.ensures.len) c.apply-answer.ensures.step in
-    let cut : vec_items c.truncate.new.self ≡ take c.apply-answer.result.lines (vec_items (with_items c.in-ok-lines.lines c.apply-answer.new.sheet)) =
+    let answered : Answered (step p s 65 c.args.call) c.apply-answer.result after c.deref_mut.result.now c.apply-answer.new.sheet =
+    subst (λ (n : ℕ). Answered (step p s n c.args.call) c.apply-answer.result after c.deref_mut.result.now c.apply-answer.new.sheet)
+    (c.deref_mut.ensures.len ∙ c.in_ok-lines.ensures.len) c.apply-answer.ensures.step in
+    let cut : vec_items c.truncate.new.self ≡ take c.apply-answer.result.lines (vec_items (with_items c.in_ok-lines.lines c.apply-answer.new.sheet)) =
     c.truncate.ensures.items in
-    let whole : vec_items (with_items c.in-ok-lines.lines c.apply-answer.new.sheet) ≡ c.apply-answer.new.sheet =
-    with_items_is c.in-ok-lines.lines c.apply-answer.new.sheet (c.apply-answer.auto.sheet ∙ c.deref-mut.ensures.len) in
+    let whole : vec_items (with_items c.in_ok-lines.lines c.apply-answer.new.sheet) ≡ c.apply-answer.new.sheet =
+    with_items_is c.in_ok-lines.lines c.apply-answer.new.sheet (c.apply-answer.auto.sheet ∙ c.deref_mut.ensures.len) in
     let entry : Entry = record { call = c.args.call; answer = c.apply-answer.result; lines = c.truncate.new.self } in
     record {
-      made = (made_entry c.args.call (step p s 65 c.args.call) entry after c.deref-mut.result.now c.apply-answer.new.sheet refl answered (cut ∙ ap (take c.apply-answer.result.lines) whole), answered.state);
+      made = (made_entry c.args.call (step p s 65 c.args.call) entry after c.deref_mut.result.now c.apply-answer.new.sheet refl answered (cut ∙ ap (take c.apply-answer.result.lines) whole), answered.state);
       rule = c.apply-answer.ensures.rule;
       order = c.apply-answer.ensures.order;
     }

@@ -23,7 +23,7 @@ loop-call-preserved g c =
     let q : Policy = policy_by g.R.Rule.opening g.R.Rule.staying g.O.Order.before c.loop-call.monitor in
     let same : q ≡ p = same_policy g.R.Rule.opening g.R.Rule.staying g.O.Order.before c.loop-call.monitor.rule c.args.monitor.now.rule c.loop-call.monitor.order c.args.monitor.now.order c.loop-call.invariant.0 c.loop-call.invariant.1 in
     let first : State = state_by g.P.Purse.books c.args.monitor.now in
-    let made = c.note.ensures.noted (sym c.is-err.ensures.value ∙ c.if-is-err.false) in (
+    let made = c.note.ensures.noted (sym c.is_err.ensures.value ∙ c.if-is_err.false) in (
       c.note.ensures.rule ∙ c.loop-call.invariant.0,
       c.note.ensures.order ∙ c.loop-call.invariant.1,
       noted_more p q same first c.args.calls.now c.loop-call.call-index (vec_items c.loop-call.entries) (vec_items c.note.new.entries)
@@ -31,12 +31,12 @@ loop-call-preserved g c =
           c.loop-call.invariant.2 c.loop-call-test.true refl made.0 made.1,
     )
 
-pub returns-then-is-err : goal.returns-then-is-err
-returns-then-is-err g c =
+pub returns-then-is_err : goal.returns-then-is_err
+returns-then-is_err g c =
     let p : Policy = policy_by g.R.Rule.opening g.R.Rule.staying g.O.Order.before c.args.monitor.now in
     let first : State = state_by g.P.Purse.books c.args.monitor.now in
     let s : State = state_by g.P.Purse.books c.note.new.monitor in
-    let kept = c.note.ensures.kept (sym c.is-err.ensures.value ∙ c.if-is-err.true) in
+    let kept = c.note.ensures.kept (sym c.is_err.ensures.value ∙ c.if-is_err.true) in
     let so_far : NotedTo p first c.args.calls.now (vec_len c.note.new.entries) (vec_items c.note.new.entries) s =
     noted_kept p first c.args.calls.now c.loop-call.call-index (vec_len c.note.new.entries) (vec_items c.loop-call.entries) (vec_items c.note.new.entries)
     (state_by g.P.Purse.books c.loop-call.monitor) s

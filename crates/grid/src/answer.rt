@@ -20,8 +20,8 @@ pub struct Grid {
 impl Grid {
     /// The grid of a rule for a lot and a right.
     pub fn new<R: Rule>(rule: &R, lot: &Lot, right: Right) -> Grid
-        ensures rows { result.rows ≡ rows_of (opening rule.now) lot.now right }
-        ensures passing { result.passing ≡ passing_of (rows_of (opening rule.now) lot.now right) }
+        ensures rows { result.rows ≡ rows_of (R.Rule.opening rule.now) lot.now right }
+        ensures passing { result.passing ≡ passing_of (rows_of (R.Rule.opening rule.now) lot.now right) }
     {
         let rows = answers(rule, lot, right);
         let passing = passing(&rows);
@@ -31,7 +31,7 @@ impl Grid {
 
 /// What the rule answers of the badge of a level and a role: 0 for pass, else the number of the rule that fails.
 pub fn answer_at<R: Rule>(rule: &R, lot: &Lot, right: Right, level: u8, role: u8) -> u8
-    ensures { result ≡ answer_at (opening rule.now) lot.now right level role }
+    ensures { result ≡ answer_at (R.Rule.opening rule.now) lot.now right level role }
 {
     let situation = Situation {
         badge: badge_of(level, role),
@@ -86,7 +86,7 @@ fn price(lot: &Lot, right: Right) -> u16
 
 // The answers along a level, by role.
 fn row<R: Rule>(rule: &R, lot: &Lot, right: Right, level: u8) -> [u8; SIDE]
-    ensures { result ≡ row_of (opening rule.now) lot.now right level }
+    ensures { result ≡ row_of (R.Rule.opening rule.now) lot.now right level }
 {
     let mut row = [0; SIDE];
     for role in 0..16u8 {
@@ -97,7 +97,7 @@ fn row<R: Rule>(rule: &R, lot: &Lot, right: Right, level: u8) -> [u8; SIDE]
 
 // The rows, by level.
 fn answers<R: Rule>(rule: &R, lot: &Lot, right: Right) -> [[u8; SIDE]; SIDE]
-    ensures { result ≡ rows_of (opening rule.now) lot.now right }
+    ensures { result ≡ rows_of (R.Rule.opening rule.now) lot.now right }
 {
     let mut rows = [[0; SIDE]; SIDE];
     for level in 0..16u8 {

@@ -66,7 +66,7 @@ mod tests {
         let text = profile_text(rt.alloc(), 1, 0)?;
         let text = text.as_str();
         assert!(rt;
-            text.starts_with("1 1 1 1 1 1 1 1 1 1 1 1 1 1 1 1\n. 2 2 2 2 2 2 2 2 2 2 2 2 2 2 2\n",)
+            text.starts_with("1 1 1 1 1 1 1 1 1 1 1 1 1 1 1 1\n. 2 2 2 2 2 2 2 2 2 2 2 2 2 2 2\n")
         );
         assert!(rt; text.ends_with("\n15 of 256 pass\n"));
         assert_eq!(rt; text.lines().count(), 17);

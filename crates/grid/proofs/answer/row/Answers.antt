@@ -11,7 +11,7 @@ filled f xs i at v e d long lt before =
 
 pub loop-role-preserved : goal.loop-role-preserved
 loop-role-preserved g c =
-    filled (answer_at (g.R.Rule.opening c.args.rule.now) c.args.lot.now c.args.right c.args.level) c.loop-role.row c.loop-role.role c.from.result c.answer-at.result c.from.ensures c.answer-at.ensures c.loop-role.invariant.0 c.loop-role-test.true c.loop-role.invariant.1
+    filled (answer_at (g.R.Rule.opening c.args.rule.now) c.args.lot.now c.args.right c.args.level) c.loop-role.row c.loop-role.role c.from.result c.answer_at.result c.from.ensures c.answer_at.ensures c.loop-role.invariant.0 c.loop-role-test.true c.loop-role.invariant.1
 
 pub returns : goal.returns
 unfolding row_of

@@ -12,7 +12,7 @@ loop-row-preserved g c = λ p.
     let long : length rows ≡ 16 = search rules in
     has_written_of_eq g.W.Write.write_str_gives _ _ _ _
     (sym (fold_more (λ text row. text ++ row_text row) [] rows c.loop-row.row-index [] (omega arith)))
-    (has_written_append g.W.Write.write_str_gives _ _ _ _ _ before (c.in-ok-write.ensures.shows before.plain refl))
+    (has_written_append g.W.Write.write_str_gives _ _ _ _ _ before (c.in_ok-write.ensures.writes before.plain refl))
 
 pub returns-clause-writes : goal.returns-clause-writes
 returns-clause-writes g c = λ p ok.

@@ -4,7 +4,14 @@ use Rattle.usage.proofs.Nothing.{nothing_at}
 use Rattle.purses.proofs.Homes.{homes_below}
 use Rattle.purses.proofs.pooled.PooledPurse.new.Goals as goal
 
-pub invariant-of-result : goal.invariant-of-result
-invariant-of-result c =
+pub invariant_of-result : goal.invariant_of-result
+invariant_of-result c =
     let fit : homes_fit c.args.homes ≡ true = search rules in
-    (search rules, (refl, (refl, (refl, (homes_below c.args.homes fit, (λ home. omega (arith, nothing_at 16 home), tt))))))
+    record {
+      accounts = search rules;
+      lefts = refl;
+      helds = refl;
+      spents = refl;
+      within = homes_below c.args.homes fit;
+      most = λ home. omega (arith, nothing_at 16 home);
+    }

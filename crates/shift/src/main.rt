@@ -6,7 +6,7 @@ use anyhow::anyhow;
 use journal::{Entry, run};
 use monitor::Monitor;
 use purses::own::OwnPurse;
-use records::{Call, Line, Returned};
+use records::{Call, Line};
 use std::io;
 use usage::number::{kind_number, returned_number, right_number};
 use usage::order::EarliestStart;
@@ -58,9 +58,12 @@ const DAY: [Call; 7] = [
 type LineRule = Both<Stop, Both<Heads, Duty>>;
 
 // Stop as rule 3, Heads as rule 4 and Duty every 30 minutes as rule 5, over an own purse, the earliest start first.
-fn new_monitor() -> Result<Monitor<LineRule, EarliestStart, OwnPurse>, Returned> {
-    let rule = Both::new(Stop::new(3)?, Both::new(Heads::new(4)?, Duty::new(5, 30)?));
-    Monitor::new(1, &[], &[], rule, EarliestStart, OwnPurse::new())
+fn new_monitor() -> Option<Monitor<LineRule, EarliestStart, OwnPurse>> {
+    let stop = Stop::new(3).ok()?;
+    let heads = Heads::new(4).ok()?;
+    let duty = Duty::new(5, 30).ok()?;
+    let rule = Both::new(stop, Both::new(heads, duty));
+    Monitor::new(1, &[], &[], rule, EarliestStart, OwnPurse::new()).ok()
 }
 
 fn print_line(rt: &HostRuntime, line: &Line) -> io::Result<()> {
@@ -87,7 +90,7 @@ fn print_entry(rt: &HostRuntime, entry: &Entry) -> io::Result<()> {
 }
 
 fn main(rt: HostRuntime) -> anyhow::Result<()> {
-    let Ok(mut monitor) = new_monitor() else {
+    let Some(mut monitor) = new_monitor() else {
         return Err(anyhow!("no monitor"));
     };
     let journal = run(rt.alloc(), &mut monitor, &DAY);

@@ -1,5 +1,5 @@
 //! The rules that are made out of rules.
-ghost use Rattle.std.specs.Prelude.{◌≡◌, leb, if◌then◌else◌, Ok, Err};
+ghost use Rattle.std.specs.Prelude.{◌≡◌, if◌then◌else◌, Ok, Err, nat_le};
 ghost use Rattle.records.specs.Numbers.{right_of, same_right};
 ghost use Rattle.records.specs.declared.Returned.TheVariants.{OutOfRange};
 ghost use Rattle.usage.specs.Rules.{both_answer, for_answer};
@@ -58,7 +58,7 @@ pub struct For<R> {
 impl<R: Rule + Drop> For<R> {
     /// The layer over a rule, for the right of a number from 0 to 3.
     pub fn new(right: u32, part: R) -> Result<For<R>, Returned>
-        ensures { result ≡ (if leb right 3 then Ok (record { right = right_of right; part = part }) else Err OutOfRange) }
+        ensures { result ≡ (if nat_le right 3 then Ok (record { right = right_of right; part = part }) else Err OutOfRange) }
     {
         match right_of(right) {
             Some(right) => Ok(For { right, part }),

@@ -1,7 +1,7 @@
 //! The own purse: each account is its home.
 ghost use Rattle.std.specs.Prelude.{◌≡◌};
 ghost use Rattle.usage.specs.Books.{Empty, books_of, own_homes};
-ghost use Rattle.std.proofs.Common.{rules, arith};
+ghost use Rattle.std.proofs.Common.{rules};
 
 use crate::pooled::PooledPurse;
 use records::Returned;
@@ -31,7 +31,7 @@ impl OwnPurse {
 impl Purse for OwnPurse {
     ghost books = { λ p. books_of own_homes p.pool.left p.pool.held p.pool.spent };
 
-    ghost sound = { first_of (Prim.search rules, Prim.grind (arith, Self.row.coded.inj)) };
+    ghost sound = { Prim.search rules };
 
     fn add(&mut self, account: u32, amount: u32) -> Returned {
         self.pool.add(account, amount)

@@ -2,7 +2,7 @@
 ghost use Rattle.std.specs.Prelude.{◌≡◌, ℕ, ◌+◌, ◌<◌, ◌≤◌, length, is_ok, if◌then◌else◌, Some, None, Ok, Err, MatchResult, nat_le, slice_index};
 ghost use Rattle.records.specs.declared.Returned.TheVariants.{OutOfRange};
 ghost use Rattle.usage.specs.Books.{Empty, books_of, homes_fit};
-ghost use Rattle.std.proofs.Common.{rules, arith};
+ghost use Rattle.std.proofs.Common.{rules};
 
 use records::Returned;
 use usage::purse::Purse;
@@ -57,7 +57,7 @@ impl PooledPurse {
 impl Purse for PooledPurse {
     ghost books = { λ p. books_of p.homes p.left p.held p.spent };
 
-    ghost sound = { first_of (Prim.search rules, Prim.grind (arith, Self.row.coded.inj)) };
+    ghost sound = { Prim.search rules };
 
     fn add(&mut self, account: u32, amount: u32) -> Returned {
         let Some(home) = self.home_of(account) else {

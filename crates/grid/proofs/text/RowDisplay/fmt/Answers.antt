@@ -1,5 +1,5 @@
 -- The step of the loop, one cell more; and the line, once every cell is written.
-use Rattle.std.proofs.Common.{◌≡◌, [], ◌++◌, length, get_or, take, drop, codes, sym, refl, ap, ◌∙◌, arith, length-drop, take_all, rules}
+use Rattle.std.proofs.Common.{◌≡◌, true, [], ◌++◌, length, get_or, take, drop, codes, sym, refl, ap, ◌∙◌, arith, length-drop, take_all, rules}
 use borrow.Rule.Slice.PartMut.{mid_of}
 use Rattle.std.proofs.Output.{has_written_append, has_written_of_eq}
 use Rattle.std.proofs.lemmas.List.Sums.{fold_more}
@@ -11,11 +11,11 @@ loop-answer-preserved g c = λ p.
     let before = c.loop-answer.invariant p in
     has_written_of_eq g.W.Write.write_str_gives _ _ _ _
     (sym (fold_more (λ text answer. text ++ (codes " " ++ cell_text answer)) [] (mid_of 1 15 c.args.self.now.0) c.loop-answer.answer-index 0 c.loop-answer-test.true))
-    (has_written_append g.W.Write.write_str_gives _ _ _ _ _ before (c.in_ok-write-2.ensures.writes before.plain refl))
+    (has_written_append g.W.Write.write_str_gives _ _ _ _ _ before (c.in_ok-write-2.ensures.writes before.plain (refl {a = true})))
 
 pub returns-clause-writes : goal.returns-clause-writes
 returns-clause-writes g c = λ p ok.
-    let first = c.in_ok-write.ensures.writes p refl in
+    let first = c.in_ok-write.ensures.writes p (refl {a = true}) in
     let middle = c.loop-answer.invariant first.plain in
     let end = c.write-2.ensures.writes middle.plain ok in
     let row = c.args.self.now.0 in

@@ -1,5 +1,5 @@
 -- A sweep round by round: it is done where none is to be revoked, and else revokes one and goes on. Assumes nothing.
-use Rattle.std.proofs.Common.{◌≡◌, ℕ, zero, suc, List, [], length, Some, None, Option, sym, refl, ap, ◌∙◌, subst, arith}
+use Rattle.std.proofs.Common.{◌≡◌, ℕ, zero, suc, [], length, Some, None, sym, refl, ap, ◌∙◌}
 use Rattle.records.specs.declared.Access.{Access}
 use Rattle.records.specs.declared.Kind.TheVariants.{Revoked}
 use Rattle.machine.specs.State.{Policy, State, situation}

@@ -1,5 +1,5 @@
 -- A sweep that is under way: what was written and asked so far, and what is left of the machine's sweep. Assumes nothing.
-use Rattle.std.proofs.Common.{◌≡◌, ℕ, suc, ◌+◌, ◌*◌, ◌<◌, ◌≤◌, Bool, List, [], ◌∷◌, ◌++◌, length, get_or, take, drop, set, Some, None, Option, sym, refl, ap, ◌∙◌, subst, append_assoc, arith, length-append}
+use Rattle.std.proofs.Common.{◌≡◌, ℕ, suc, ◌+◌, ◌*◌, ◌<◌, ◌≤◌, Bool, List, [], ◌∷◌, ◌++◌, length, get_or, take, drop, set, Some, None, sym, refl, ap, ◌∙◌, append_assoc, arith, length-append}
 use Rattle.std.proofs.lemmas.List.{append-nil, set_at, drop_more, length-take-le, take-append-drop}
 use Rattle.register.specs.Tests.{by_option, none_some}
 use Rattle.records.specs.declared.Access.{Access}
@@ -8,7 +8,7 @@ use Rattle.records.specs.declared.Kind.TheVariants.{Revoked}
 use Rattle.records.specs.declared.Situation.{Situation}
 use Rattle.machine.specs.State.{Policy, State, situation}
 use Rattle.machine.specs.Lines.{closing_line}
-use Rattle.machine.specs.Sweep.{Swept, close, to_revoke, one_more, sweep}
+use Rattle.machine.specs.Sweep.{close, to_revoke, one_more, sweep}
 use Rattle.machine.proofs.Cases.{length_close}
 use Rattle.machine.proofs.Rounds.{done, sweep_done, sweep_more}
 use Rattle.monitor.specs.declared.sweep.Failing.{Failing}

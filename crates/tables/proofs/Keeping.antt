@@ -12,7 +12,7 @@ use Rattle.machine.specs.State.{Scene, State, is_lot, is_access, at_lot, raise, 
 use Rattle.machine.specs.Scenes.{put_lot}
 use Rattle.machine.specs.Rising.{RisingLots}
 use Rattle.machine.proofs.Registers.{new_lot, lots_apart, lots_moved, heads_rise}
-use Rattle.machine.proofs.Serials.{OwnSerials, apart_opened, apart_accesses, apart_close}
+use Rattle.machine.proofs.Serials.{apart_opened, apart_accesses, apart_close}
 use Rattle.machine.proofs.PlacingCounts.{open_at_changed, open_at_most}
 use Rattle.machine.proofs.PlacingScenes.{lotted_heads, counted_entered, counted_struck, counted_put_lot, some_put_lot, some_drop_lot}
 use Rattle.tables.specs.Kept.{Kept}

@@ -1,5 +1,5 @@
 -- Registers that pass the maker's checks are in range, in order and without heads. Assumes nothing.
-use Rattle.std.proofs.Common.{◌≡◌, ℕ, ◌≤◌, Bool, true, eqb, List, [], ◌∷◌, length, sym, ap, ◌∙◌, subst, ⊎_elim, arith}
+use Rattle.std.proofs.Common.{◌≡◌, ◌≤◌, Bool, true, eqb, List, [], ◌∷◌, length, sym, ap, ◌∙◌, subst, ⊎_elim, arith}
 use Rattle.register.specs.Lists.{In, all, before_next, rises}
 use Rattle.register.specs.Tests.{both, eqb_equal}
 use Rattle.records.specs.Ranges.{badge_number_fits, code_fits, attribute_fits, limit_fits, prices_fit}

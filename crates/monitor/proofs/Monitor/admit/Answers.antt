@@ -1,7 +1,6 @@
 use Rattle.std.proofs.Common.{◌≡◌, ◌+◌, Bool, true, cond, ◌&&◌, eqb, ltb, leb, length, ap, ◌∙◌, arith}
 use Rattle.std.proofs.lemmas.Bool.Decides.{nat_tests}
 use Rattle.machine.specs.Sweep.{enter}
-use Rattle.records.specs.declared.Line.{Line}
 use Rattle.records.specs.declared.Kind.TheVariants.{Opened}
 use Rattle.machine.specs.State.{Policy, State}
 use Rattle.machine.specs.Lines.{opening_line}

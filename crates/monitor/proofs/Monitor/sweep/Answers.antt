@@ -1,5 +1,5 @@
 -- Each round writes the machine's line, closes its access and asks as many questions. Assumes nothing.
-use Rattle.std.proofs.Common.{◌≡◌, suc, ◌≤◌, length, Some, None, sym, refl, ap, ◌∙◌, subst, arith, length-take}
+use Rattle.std.proofs.Common.{◌≡◌, ◌≤◌, length, Some, None, sym, refl, ap, ◌∙◌, subst, arith, length-take}
 use Rattle.records.specs.declared.Kind.TheVariants.{Revoked}
 use Rattle.machine.specs.State.{Policy, State, situation}
 use Rattle.machine.specs.Lines.{closing_line}

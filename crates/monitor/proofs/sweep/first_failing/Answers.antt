@@ -1,4 +1,4 @@
-use Rattle.std.proofs.Common.{◌≡◌, length, ap, ◌∙◌, arith}
+use Rattle.std.proofs.Common.{length, ap, ◌∙◌, arith}
 use Rattle.machine.specs.State.{Policy}
 use Rattle.tables.specs.Tables.{scene_of}
 use Rattle.monitor.specs.Answered.{policy_of}

@@ -1,4 +1,4 @@
-use Rattle.std.proofs.Common.{◌≡◌, true, sym, refl, arith, rules}
+use Rattle.std.proofs.Common.{◌≡◌, true, sym, refl, rules}
 use Rattle.register.specs.Lists.{all}
 use Rattle.tables.specs.Made.{badge_fits, lot_fits}
 use Rattle.tables.proofs.Keeping.{kept_new, kept_at}

@@ -1,4 +1,4 @@
-use Rattle.std.proofs.Common.{◌≡◌, ◌≤◌, true, eqb, take, ◌+◌, refl, ap, ◌∙◌, rules}
+use Rattle.std.proofs.Common.{◌≡◌, true, eqb, take, ◌+◌, refl, ap, ◌∙◌, rules}
 use Rattle.register.specs.Lists.{some}
 use Rattle.records.specs.declared.Lot.{Lot}
 use Rattle.machine.specs.State.{is_lot, with_lots}

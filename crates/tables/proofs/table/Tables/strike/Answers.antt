@@ -1,4 +1,4 @@
-use Rattle.std.proofs.Common.{◌≡◌, ℕ, ◌-◌, List, Some, take, sym, ◌∙◌, subst, ap, rules}
+use Rattle.std.proofs.Common.{◌≡◌, ℕ, ◌-◌, List, Some, take, sym, ◌∙◌, ap, rules}
 use Rattle.register.specs.Lists.{first, without}
 use Rattle.records.specs.declared.Access.{Access}
 use Rattle.machine.specs.State.{Scene, is_access}

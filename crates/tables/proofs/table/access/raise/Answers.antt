@@ -1,4 +1,4 @@
-use Rattle.std.proofs.Common.{◌+◌, take, sym, refl, ap, ◌∙◌, arith}
+use Rattle.std.proofs.Common.{◌+◌, take, sym, refl, ◌∙◌, arith}
 use Rattle.register.proofs.Lists.{first_in, changed_none}
 use Rattle.machine.specs.State.{is_lot, with_heads}
 use Rattle.tables.proofs.Replaced.{lot_replaced}

@@ -1,4 +1,4 @@
-use Rattle.std.proofs.Common.{◌≡◌, [], ◌∷◌, get_or, rules}
+use Rattle.std.proofs.Common.{rules}
 use Rattle.tables.proofs.Prices.{four}
 use Rattle.tables.proofs.table.make.widened.Goals as goal
 

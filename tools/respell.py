@@ -4,7 +4,7 @@ facts and records in camel case, in all of crates/. Run once, at the top, right 
 
 A name counts as the repository's own where a .antt file of specs/ or proofs/ declares it with a dash in it. Names of the
 toolchain (its library, and the goals and steps that it makes) keep their dashes, and so do strings and comments.
-It prints each name that would fall together with another, and then writes nothing.
+It prints each new spelling that a file has already, or that two names share.
 """
 import os
 import re

@@ -6,7 +6,7 @@ use Rattle.register.specs.Lists.{In}
 use Rattle.register.specs.Tests.{by_test, none_some, not_passing, not_both}
 use Rattle.usage.specs.Orders.{Ordered}
 use Rattle.machine.specs.State.{Policy, Scene, fails}
-use Rattle.machine.specs.Sweep.{first_of, foremost_from, to_revoke}
+use Rattle.machine.specs.Sweep.{sooner_of, foremost_from, to_revoke}
 
 -- it is the best so far, or a member that fails
 foremost_from_in :
@@ -14,20 +14,20 @@ foremost_from_in :
     foremost_from before failing best xs ≡ Some a → (best ≡ Some a) ⊎ (In a xs × (failing a ≡ true))
 foremost_from_in before failing best [] a e = inl e
 foremost_from_in before failing best (x ∷ xs) a e =
-    let later : (cond (failing x) (first_of before x best) best ≡ Some a) ⊎ (In a xs × (failing a ≡ true)) =
-    foremost_from_in before failing (cond (failing x) (first_of before x best) best) xs a e in
+    let later : (cond (failing x) (sooner_of before x best) best ≡ Some a) ⊎ (In a xs × (failing a ≡ true)) =
+    foremost_from_in before failing (cond (failing x) (sooner_of before x best) best) xs a e in
     ⊎_elim (λ h. now_or_before (failing x) refl h) (λ h. inr (inr h.0, h.1)) later
   where
     here : failing x ≡ true → Some x ≡ Some a → (best ≡ Some a) ⊎ (In a (x ∷ xs) × (failing a ≡ true))
     here f h = let same : a ≡ x = cc in inr (inl same, subst (λ v. failing v ≡ true) (sym same) f)
 
-    pick : (o : Option Access) → best ≡ o → failing x ≡ true → first_of before x o ≡ Some a → (best ≡ Some a) ⊎ (In a (x ∷ xs) × (failing a ≡ true))
+    pick : (o : Option Access) → best ≡ o → failing x ≡ true → sooner_of before x o ≡ Some a → (best ≡ Some a) ⊎ (In a (x ∷ xs) × (failing a ≡ true))
     pick None b f h = here f h
     pick (Some y) b f h =
         by_test (before x y) (λ t. cond t (Some x) (Some y) ≡ Some a → (best ≡ Some a) ⊎ (In a (x ∷ xs) × (failing a ≡ true)))
         (λ _ k. here f k) (λ _ k. inl (b ∙ k)) h
 
-    now_or_before : (t : Bool) → failing x ≡ t → cond t (first_of before x best) best ≡ Some a → (best ≡ Some a) ⊎ (In a (x ∷ xs) × (failing a ≡ true))
+    now_or_before : (t : Bool) → failing x ≡ t → cond t (sooner_of before x best) best ≡ Some a → (best ≡ Some a) ⊎ (In a (x ∷ xs) × (failing a ≡ true))
     now_or_before true f h = pick best refl f h
     now_or_before false f h = inl h
 
@@ -43,8 +43,8 @@ pub none_fails :
     foremost_from before failing best xs ≡ None → (best ≡ None) × ((a : Access) → In a xs → failing a ≡ false)
 none_fails before failing best [] e = (e, λ a i. absurd i)
 none_fails before failing best (x ∷ xs) e =
-    let later : (cond (failing x) (first_of before x best) best ≡ None) × ((a : Access) → In a xs → failing a ≡ false) =
-    none_fails before failing (cond (failing x) (first_of before x best) best) xs e in
+    let later : (cond (failing x) (sooner_of before x best) best ≡ None) × ((a : Access) → In a xs → failing a ≡ false) =
+    none_fails before failing (cond (failing x) (sooner_of before x best) best) xs e in
     let here : (best ≡ None) × (failing x ≡ false) = passed (failing x) best later.0 in
     (here.0, λ a i. ⊎_elim (λ k. ap failing k ∙ here.1) (λ k. later.1 a k) i)
   where
@@ -52,7 +52,7 @@ none_fails before failing best (x ∷ xs) e =
     chosen b true k = none_some (sym k)
     chosen b false k = none_some (sym k)
 
-    passed : (f : Bool) (o : Option Access) → cond f (first_of before x o) o ≡ None → (o ≡ None) × (f ≡ false)
+    passed : (f : Bool) (o : Option Access) → cond f (sooner_of before x o) o ≡ None → (o ≡ None) × (f ≡ false)
     passed true None k = none_some (sym k)
     passed true (Some b) k = absurd (chosen b (before x b) k)
     passed false o k = (k, refl)
@@ -65,7 +65,7 @@ module _ (before : Access → Access → Bool) (ordered : Ordered before) (a : A
   -- the foremost is the best so far or goes before it
   foremost_best :
       (f : Bool) (x : Access) (best : Option Access) →
-      ((y : Access) → cond f (first_of before x best) best ≡ Some y → Leads before a y) →
+      ((y : Access) → cond f (sooner_of before x best) best ≡ Some y → Leads before a y) →
       (y : Access) → best ≡ Some y → Leads before a y
   foremost_best false x best h y e = h y e
   foremost_best true x None h y e = none_some e
@@ -93,7 +93,7 @@ module _ (before : Access → Access → Bool) (ordered : Ordered before) (a : A
 
   foremost_next :
       (x : Access) (best : Option Access) →
-      ((y : Access) → first_of before x best ≡ Some y → Leads before a y) →
+      ((y : Access) → sooner_of before x best ≡ Some y → Leads before a y) →
       (x.serial ≡ a.serial → ⊥) → before a x ≡ true
   foremost_next x None h other = ahead x (h x refl) other
   foremost_next x (Some b) h other =
@@ -109,23 +109,23 @@ module _ (before : Access → Access → Bool) (ordered : Ordered before) (a : A
   foremost_goes failing best [] e = (λ y k. let same : a ≡ y = cc in inl same, λ b i. absurd i)
   foremost_goes failing best (x ∷ xs) e =
       let later :
-      ((y : Access) → cond (failing x) (first_of before x best) best ≡ Some y → Leads before a y)
+      ((y : Access) → cond (failing x) (sooner_of before x best) best ≡ Some y → Leads before a y)
       × ((b : Access) → In b xs → failing b ≡ true → (b.serial ≡ a.serial → ⊥) → before a b ≡ true) =
-      foremost_goes failing (cond (failing x) (first_of before x best) best) xs e in (
+      foremost_goes failing (cond (failing x) (sooner_of before x best) best) xs e in (
         foremost_best (failing x) x best later.0,
         λ b i f other. ⊎_elim (λ k. at_next later.0 b k f other) (λ k. later.1 b k f other) i,
       )
     where
       here :
-          ((y : Access) → cond (failing x) (first_of before x best) best ≡ Some y → Leads before a y) →
+          ((y : Access) → cond (failing x) (sooner_of before x best) best ≡ Some y → Leads before a y) →
           failing x ≡ true → (x.serial ≡ a.serial → ⊥) → before a x ≡ true
       here g f other =
           foremost_next x best
-          (subst (λ (t : Bool). (y : Access) → cond t (first_of before x best) best ≡ Some y → Leads before a y) f g)
+          (subst (λ (t : Bool). (y : Access) → cond t (sooner_of before x best) best ≡ Some y → Leads before a y) f g)
           other
 
       at_next :
-          ((y : Access) → cond (failing x) (first_of before x best) best ≡ Some y → Leads before a y) →
+          ((y : Access) → cond (failing x) (sooner_of before x best) best ≡ Some y → Leads before a y) →
           (b : Access) → b ≡ x → failing b ≡ true → (b.serial ≡ a.serial → ⊥) → before a b ≡ true
       at_next g b k =
           subst (λ (v : Access). failing v ≡ true → (v.serial ≡ a.serial → ⊥) → before a v ≡ true) (sym k) (here g)

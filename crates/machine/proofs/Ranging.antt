@@ -27,7 +27,7 @@ use Rattle.machine.proofs.Registers.{new_badge, new_lot}
 use Rattle.machine.proofs.Reporting.{shift_few}
 use Rattle.machine.proofs.PlacingCounts.{open_at_most}
 use Rattle.machine.proofs.Placing.{shifts_counted}
-use Rattle.machine.proofs.RangingRecords.{get_d_between, LotRanges, with_heads_fits, Few, few_changed, few_without, few_put, later_fits, used_fits, duty_fits}
+use Rattle.machine.proofs.RangingRecords.{get_or_between, LotRanges, with_heads_fits, Few, few_changed, few_without, few_put, later_fits, used_fits, duty_fits}
 
 -- all but the heads of lots and the number of accesses, which are counted
 record InRange (s : Scene) (next : ℕ) : Type 0 where
@@ -67,7 +67,7 @@ asked_fits s sheet n c r units clear h =
       serial = in_range clear.1.1.1.1.1.1.0 h.serial.0;
       badge = grind (arith, nat_tests);
       lot = grind (arith, nat_tests);
-      price = get_d_between 1000 (lot_of s.scene c).prices (right_number (right_of r)) (h.lots.each (lot_of s.scene c) its_lot).prices;
+      price = get_or_between 1000 (lot_of s.scene c).prices (right_number (right_of r)) (h.lots.each (lot_of s.scene c) its_lot).prices;
       account = (h.badges.each (badge_of s.scene n) its_badge).account;
       held = grind (arith, nat_tests);
       used = omega arith;

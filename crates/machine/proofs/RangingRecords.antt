@@ -12,10 +12,10 @@ use Rattle.machine.specs.Scenes.{after_use, after_duty}
 use Rattle.machine.specs.Fitting.{LotFits, AccessFits}
 
 -- a number of a list in range is in range, and a default of 0 is
-pub get_d_between : (high : ℕ) (ns : List ℕ) (k : ℕ) → all_between 0 high ns ≡ true → get_or ns k 0 ≤ high
-get_d_between high [] k e = omega arith
-get_d_between high (n ∷ ns) zero e = grind (arith, nat_tests)
-get_d_between high (n ∷ ns) (suc k) e = get_d_between high ns k (both (between 0 high n) (all_between 0 high ns) e).1
+pub get_or_between : (high : ℕ) (ns : List ℕ) (k : ℕ) → all_between 0 high ns ≡ true → get_or ns k 0 ≤ high
+get_or_between high [] k e = omega arith
+get_or_between high (n ∷ ns) zero e = grind (arith, nat_tests)
+get_or_between high (n ∷ ns) (suc k) e = get_or_between high ns k (both (between 0 high n) (all_between 0 high ns) e).1
 
 -- what a lot has in range by itself: all but its heads
 abbrev pub LotRanges : Lot → Type 0

@@ -25,14 +25,14 @@ close a s = record {
 }
 
 -- the one that goes first, of an access and the foremost so far
-abbrev pub first_of : (Access → Access → Bool) → Access → Option Access → Option Access
-first_of before a None = Some a
-first_of before a (Some b) = cond (before a b) (Some a) (Some b)
+abbrev pub sooner_of : (Access → Access → Bool) → Access → Option Access → Option Access
+sooner_of before a None = Some a
+sooner_of before a (Some b) = cond (before a b) (Some a) (Some b)
 
 -- the foremost of those that fail, from the foremost so far
 abbrev pub foremost_from : (Access → Access → Bool) → (Access → Bool) → Option Access → List Access → Option Access
 foremost_from before failing best [] = best
-foremost_from before failing best (a ∷ more) = foremost_from before failing (cond (failing a) (first_of before a best) best) more
+foremost_from before failing best (a ∷ more) = foremost_from before failing (cond (failing a) (sooner_of before a best) best) more
 
 abbrev pub to_revoke : Policy → Scene → Option Access
 to_revoke p s = foremost_from p.before (fails p s) None s.accesses

@@ -4,13 +4,13 @@ use Rattle.std.proofs.lemmas.List.{at_drop_more, drop_all}
 use Rattle.register.specs.Tests.{by_test}
 use Rattle.records.specs.declared.Access.{Access}
 use Rattle.machine.specs.State.{Policy, Scene, situation, fails}
-use Rattle.machine.specs.Sweep.{first_of, foremost_from}
+use Rattle.machine.specs.Sweep.{sooner_of, foremost_from}
 use Rattle.monitor.specs.declared.sweep.Failing.{Failing}
 use Rattle.monitor.specs.Failing.{failing, with_cause, ahead, foremost_with, foremost_of}
 
 module _ (p : Policy) (s : Scene) where
   ahead_is : (a : Access) (best : Option Access) →
-      ahead p.before (failing a (p.staying (situation s a))) (with_cause p s best) ≡ with_cause p s (first_of p.before a best)
+      ahead p.before (failing a (p.staying (situation s a))) (with_cause p s best) ≡ with_cause p s (sooner_of p.before a best)
   ahead_is a None = refl
   ahead_is a (Some b) =
       by_test (p.before a b)
@@ -18,18 +18,18 @@ module _ (p : Policy) (s : Scene) where
       (λ _. refl) (λ _. refl)
 
   foremost_with_is : (a : Access) (best : Option Access) →
-      foremost_with p.before a (p.staying (situation s a)) (with_cause p s best) ≡ with_cause p s (cond (fails p s a) (first_of p.before a best) best)
+      foremost_with p.before a (p.staying (situation s a)) (with_cause p s best) ≡ with_cause p s (cond (fails p s a) (sooner_of p.before a best) best)
   foremost_with_is a best =
       by_test (eqb (p.staying (situation s a)) 0)
       (λ t. cond t (with_cause p s best) (ahead p.before (failing a (p.staying (situation s a))) (with_cause p s best))
-      ≡ with_cause p s (cond (not t) (first_of p.before a best) best))
+      ≡ with_cause p s (cond (not t) (sooner_of p.before a best) best))
       (λ _. refl) (λ _. ahead_is a best)
 
   pub foremost_is : (best : Option Access) (xs : List Access) →
       foremost_of p s (with_cause p s best) xs ≡ with_cause p s (foremost_from p.before (fails p s) best xs)
   foremost_is best [] = refl
   foremost_is best (a ∷ xs) =
-      ap (λ o. foremost_of p s o xs) (foremost_with_is a best) ∙ foremost_is (cond (fails p s a) (first_of p.before a best) best) xs
+      ap (λ o. foremost_of p s o xs) (foremost_with_is a best) ∙ foremost_is (cond (fails p s a) (sooner_of p.before a best) best) xs
 
   -- one access more, and all of them
   pub foremost_more : (best next all : Option Failing) (xs : List Access) (i : ℕ) (d : Access) (answer : ℕ) → i < length xs →

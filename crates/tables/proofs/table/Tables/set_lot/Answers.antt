@@ -1,4 +1,4 @@
-use Rattle.std.proofs.Common.{◌≡◌, true, eqb, take, ◌+◌, refl, ap, ◌∙◌, rules}
+use Rattle.std.proofs.Common.{◌≡◌, true, take, ◌+◌, refl, ap, ◌∙◌, rules}
 use Rattle.register.specs.Lists.{some}
 use Rattle.records.specs.declared.Lot.{Lot}
 use Rattle.machine.specs.State.{is_lot, with_lots}
@@ -37,7 +37,7 @@ invariant_of-self-in-Full-clause-kept c = kept_at _ _ _ _ _ c.in-Full.ensures.re
 pub returns-in-Replaced : goal.returns-in-Replaced
 returns-in-Replaced c =
     let lots = take c.args.self.now.lot_count c.args.self.now.lots in
-    let asked : Lot = record { code = c.args.code; level = c.args.level; role = c.args.role; stop = eqb c.args.stop 1; limit = c.args.limit; prices = c.args.prices; heads = 0 } in
+    let asked : Lot = new_lot c.args.code c.args.level c.args.role c.args.stop c.args.limit c.args.prices in
     let same : c.in-Some.lot ≡ asked = search rules in
     let there : some (is_lot c.args.code) lots ≡ true = search rules in
     record {

@@ -6,7 +6,6 @@ use Rattle.machine.specs.Sweep.{strike}
 use Rattle.tables.specs.Tables.{scene_of, struck, struck_one}
 use Rattle.tables.proofs.Keeping.{kept_struck, kept_at, found_under, found_again}
 use Rattle.tables.proofs.table.Tables.strike.Goals as goal
-use Rattle.tables.proofs.table.Tables.strike.Goals.{After-lower}
 
 -- what the removal found and left, by the access's own serial
 record Taken (serial : ℕ) (xs rest : List Access) (a : Access) : Type 0 where

@@ -1,13 +1,13 @@
 -- The number that stands for each case of an enum, on data sheets, on sheets and in files. Assumes nothing.
-use Rattle.std.specs.Prelude.{ℕ, Bool, cond, ◌==◌}
+use Rattle.std.specs.Prelude.{ℕ, Bool, cond, Ok, Err, Result, ◌==◌}
 use Rattle.records.specs.declared.Right.{Right}
 use Rattle.records.specs.declared.Right.TheVariants.{Read, Weigh, Label, Release}
 use Rattle.records.specs.declared.Phase.{Phase}
 use Rattle.records.specs.declared.Phase.TheVariants.{Work, Washdown}
 use Rattle.records.specs.declared.Kind.{Kind}
 use Rattle.records.specs.declared.Kind.TheVariants.{Opened, Denied, Ended, Revoked}
-use Rattle.records.specs.declared.Returned.{Returned}
-use Rattle.records.specs.declared.Returned.TheVariants.{Accepted, ShortSheet, OutOfRange, NoBadge, NoLot, NoAccess, AlreadyOpen, AccessesFull, SerialsSpent, QuestionFails, CreditShort, RegisterFull, InUse, UnitsSpent, GrantTooLarge, ClockSpent, HoldMismatch}
+use Rattle.records.specs.declared.Refusal.{Refusal}
+use Rattle.records.specs.declared.Refusal.TheVariants.{ShortSheet, OutOfRange, NoBadge, NoLot, NoAccess, AlreadyOpen, AccessesFull, SerialsSpent, QuestionFails, CreditShort, RegisterFull, InUse, UnitsSpent, GrantTooLarge, ClockSpent, HoldMismatch}
 
 abbrev pub right_number : Right → ℕ
 right_number Read = 0
@@ -36,22 +36,26 @@ kind_number Denied = 2
 kind_number Ended = 3
 kind_number Revoked = 4
 
--- what a call returned, as the return table numbers it
-abbrev pub returned_number : Returned → ℕ
-returned_number Accepted = 0
-returned_number ShortSheet = 1
-returned_number OutOfRange = 2
-returned_number NoBadge = 3
-returned_number NoLot = 4
-returned_number NoAccess = 5
-returned_number AlreadyOpen = 6
-returned_number AccessesFull = 7
-returned_number SerialsSpent = 8
-returned_number QuestionFails = 9
-returned_number CreditShort = 10
-returned_number RegisterFull = 11
-returned_number InUse = 12
-returned_number UnitsSpent = 13
-returned_number GrantTooLarge = 14
-returned_number ClockSpent = 15
-returned_number HoldMismatch = 16
+-- why a call refuses, as the return table numbers it
+abbrev pub refusal_number : Refusal → ℕ
+refusal_number ShortSheet = 1
+refusal_number OutOfRange = 2
+refusal_number NoBadge = 3
+refusal_number NoLot = 4
+refusal_number NoAccess = 5
+refusal_number AlreadyOpen = 6
+refusal_number AccessesFull = 7
+refusal_number SerialsSpent = 8
+refusal_number QuestionFails = 9
+refusal_number CreditShort = 10
+refusal_number RegisterFull = 11
+refusal_number InUse = 12
+refusal_number UnitsSpent = 13
+refusal_number GrantTooLarge = 14
+refusal_number ClockSpent = 15
+refusal_number HoldMismatch = 16
+
+-- what a call returned: 0 where it was accepted
+abbrev pub returned_number : Result (Unit {0}) Refusal → ℕ
+returned_number (Ok _) = 0
+returned_number (Err refusal) = refusal_number refusal

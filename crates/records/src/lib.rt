@@ -3,6 +3,8 @@
 
 use register::key::Keyed;
 
+pub mod number;
+
 /// What an access is for.
 #[derive(Clone, Copy, PartialEq, Eq, Debug)]
 pub enum Right {
@@ -28,10 +30,9 @@ pub enum Kind {
     Revoked,
 }
 
-/// What a call returned: accepted, or the first check that refused it.
+/// Why a call, a purse or a maker refuses: the first check that applies.
 #[derive(Clone, Copy, PartialEq, Eq, Debug)]
-pub enum Returned {
-    Accepted,
+pub enum Refusal {
     ShortSheet,
     OutOfRange,
     NoBadge,
@@ -206,7 +207,7 @@ pub enum Call {
 /// many staying questions it put.
 #[derive(Clone, Copy, PartialEq, Eq, Debug)]
 pub struct Answer {
-    pub returned: Returned,
+    pub returned: Result<(), Refusal>,
     pub lines: u32,
     pub serial: u32,
     pub questions: u32,

@@ -2,7 +2,6 @@
 //! owes, with the implementations that a plant chooses from.
 #![tactic(auto)]
 
-pub mod number;
 pub mod order;
 pub mod purse;
 pub mod role;

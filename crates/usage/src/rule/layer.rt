@@ -1,12 +1,11 @@
 //! The rules that are made out of rules.
 ghost use Rattle.std.specs.Prelude.{◌≡◌, if◌then◌else◌, Ok, Err, nat_le};
 ghost use Rattle.records.specs.Numbers.{right_of, same_right};
-ghost use Rattle.records.specs.declared.Returned.TheVariants.{OutOfRange};
+ghost use Rattle.records.specs.declared.Refusal.TheVariants.{OutOfRange};
 ghost use Rattle.usage.specs.Rules.{both_answer, for_answer};
 
-use crate::number::{right_number, right_of};
 use crate::rule::Rule;
-use records::{Returned, Right, Situation};
+use records::{Refusal, Right, Situation};
 
 /// Answers its first part's failure, else its second part's answer.
 #[derive(Clone, Copy, Drop)]
@@ -57,13 +56,20 @@ pub struct For<R> {
 
 impl<R: Rule + Drop> For<R> {
     /// The layer over a rule, for the right of a number from 0 to 3.
-    pub fn new(right: u32, part: R) -> Result<For<R>, Returned>
+    pub fn new(right: u32, part: R) -> Result<For<R>, Refusal>
         ensures { result ≡ (if nat_le right 3 then Ok (record { right = right_of right; part = part }) else Err OutOfRange) }
     {
-        match right_of(right) {
-            Some(right) => Ok(For { right, part }),
-            None => Err(Returned::OutOfRange),
-        }
+        let right = Right::try_from(right)?;
+        Ok(For { right, part })
+    }
+}
+
+impl<R> For<R> {
+    // Whether an access is under the part's right.
+    fn is_under(&self, s: &Situation) -> bool
+        ensures { result ≡ same_right self.now.right s.now.access.right }
+    {
+        self.right == s.access.right
     }
 }
 
@@ -73,7 +79,7 @@ impl<R: Rule> Rule for For<R> {
     ghost staying = { λ rule s. for_answer rule.right s (R.Rule.staying rule.part s) };
 
     fn ask_opening(&self, s: &Situation) -> u8 {
-        if same_right(self.right, s.access.right) {
+        if self.is_under(s) {
             self.part.ask_opening(s)
         } else {
             0
@@ -81,17 +87,10 @@ impl<R: Rule> Rule for For<R> {
     }
 
     fn ask_staying(&self, s: &Situation) -> u8 {
-        if same_right(self.right, s.access.right) {
+        if self.is_under(s) {
             self.part.ask_staying(s)
         } else {
             0
         }
     }
-}
-
-// Whether two rights are the same.
-fn same_right(a: Right, b: Right) -> bool
-    ensures { result ≡ same_right a b }
-{
-    right_number(a) == right_number(b)
 }

@@ -1,12 +1,12 @@
 //! The rules that read a situation themselves.
 ghost use Rattle.std.specs.Prelude.{◌≡◌, ◌&&◌, if◌then◌else◌, Ok, Err, int_le};
-ghost use Rattle.records.specs.declared.Returned.TheVariants.{OutOfRange};
+ghost use Rattle.records.specs.declared.Refusal.TheVariants.{OutOfRange};
 ghost use Rattle.records.specs.Ranges.{temperature_fits};
 ghost use Rattle.usage.specs.Rules.{rule_number_fits, interval_fits, level_answer, role_answer, stop_answer, heads_answer, room_answer, duty_answer};
 
 use crate::role::at_or_above;
 use crate::rule::Rule;
-use records::{Phase, Returned, Situation};
+use records::{Phase, Refusal, Situation};
 
 /// Passes where the badge's level is at least the lot's.
 #[derive(Clone, Copy)]
@@ -16,7 +16,7 @@ pub struct Level {
 
 impl Level {
     /// The rule under a number from 1 to 255.
-    pub fn new(number: u32) -> Result<Level, Returned>
+    pub fn new(number: u32) -> Result<Level, Refusal>
         ensures { result ≡ (if rule_number_fits number then Ok (record { number = number }) else Err OutOfRange) }
     {
         let number = rule_number(number)?;
@@ -46,7 +46,7 @@ pub struct Role {
 
 impl Role {
     /// The rule under a number from 1 to 255.
-    pub fn new(number: u32) -> Result<Role, Returned>
+    pub fn new(number: u32) -> Result<Role, Refusal>
         ensures { result ≡ (if rule_number_fits number then Ok (record { number = number }) else Err OutOfRange) }
     {
         let number = rule_number(number)?;
@@ -76,7 +76,7 @@ pub struct Stop {
 
 impl Stop {
     /// The rule under a number from 1 to 255.
-    pub fn new(number: u32) -> Result<Stop, Returned>
+    pub fn new(number: u32) -> Result<Stop, Refusal>
         ensures { result ≡ (if rule_number_fits number then Ok (record { number = number }) else Err OutOfRange) }
     {
         let number = rule_number(number)?;
@@ -106,7 +106,7 @@ pub struct Heads {
 
 impl Heads {
     /// The rule under a number from 1 to 255.
-    pub fn new(number: u32) -> Result<Heads, Returned>
+    pub fn new(number: u32) -> Result<Heads, Refusal>
         ensures { result ≡ (if rule_number_fits number then Ok (record { number = number }) else Err OutOfRange) }
     {
         let number = rule_number(number)?;
@@ -138,15 +138,15 @@ pub struct Room {
 
 impl Room {
     /// The rule under a number from 1 to 255, with a lowest and a highest temperature from -400 to 600.
-    pub fn new(number: u32, lowest: i64, highest: i64) -> Result<Room, Returned>
+    pub fn new(number: u32, lowest: i64, highest: i64) -> Result<Room, Refusal>
         ensures { result ≡ (if rule_number_fits number && (temperature_fits lowest && temperature_fits highest) then Ok (record { number = number; lowest = lowest; highest = highest }) else Err OutOfRange) }
     {
         let number = rule_number(number)?;
         if !temperature_fits(lowest) {
-            return Err(Returned::OutOfRange);
+            return Err(Refusal::OutOfRange);
         }
         if !temperature_fits(highest) {
-            return Err(Returned::OutOfRange);
+            return Err(Refusal::OutOfRange);
         }
         Ok(Room {
             number,
@@ -185,12 +185,12 @@ pub struct Duty {
 
 impl Duty {
     /// The rule under a number from 1 to 255, with an interval from 0 to 1,440 minutes.
-    pub fn new(number: u32, interval: u32) -> Result<Duty, Returned>
+    pub fn new(number: u32, interval: u32) -> Result<Duty, Refusal>
         ensures { result ≡ (if rule_number_fits number && interval_fits interval then Ok (record { number = number; interval = interval }) else Err OutOfRange) }
     {
         let number = rule_number(number)?;
         if interval > 1440 {
-            return Err(Returned::OutOfRange);
+            return Err(Refusal::OutOfRange);
         }
         Ok(Duty { number, interval })
     }
@@ -221,11 +221,11 @@ fn answer(passes: bool, number: u8) -> u8
 }
 
 // A rule's number, from 1 to 255.
-fn rule_number(number: u32) -> Result<u8, Returned>
+fn rule_number(number: u32) -> Result<u8, Refusal>
     ensures { result ≡ (if rule_number_fits number then Ok number else Err OutOfRange) }
 {
     if number == 0 || number > 255 {
-        return Err(Returned::OutOfRange);
+        return Err(Refusal::OutOfRange);
     }
     Ok(number as u8)
 }

@@ -2,7 +2,7 @@
 #![tactic(auto)]
 
 ghost use Rattle.std.specs.Prelude.{◌≡◌};
-ghost use Rattle.records.specs.Ranges.{between, badge_number_fits, code_fits, serial_fits, attribute_fits, units_fit, prices_fit, limit_fits, clock_fits, temperature_fits};
+ghost use Rattle.records.specs.Ranges.{between, badge_number_fits, code_fits, serial_fits, attribute_fits, units_fit, prices_fit, limit_fits, price_fits, clock_fits, temperature_fits};
 
 /// A badge's number: 1 to 4,294,967,295.
 pub fn badge_number_fits(number: u32) -> bool
@@ -84,9 +84,9 @@ fn byte_fits(byte: u8) -> bool
     byte >= 0x21 && byte <= 0x7E
 }
 
-// A price.
-fn price_fits(price: u32) -> bool
-    ensures { result ≡ between 0 1000 price }
+/// A price: 0 to 1,000.
+pub fn price_fits(price: u32) -> bool
+    ensures { result ≡ price_fits price }
 {
     price <= 1_000
 }

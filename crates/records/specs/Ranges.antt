@@ -24,6 +24,9 @@ attribute_fits n = nat_le n 15
 abbrev pub units_fit : ℕ → Bool
 units_fit n = nat_le n 1000
 
+abbrev pub price_fits : ℕ → Bool
+price_fits n = between 0 1000 n
+
 abbrev pub prices_fit : List ℕ → Bool
 prices_fit ps = all_between 0 1000 ps
 

@@ -1,9 +1,10 @@
 //! The number that stands for each case of an enum, and the case of a number.
 ghost use Rattle.std.specs.Prelude.{◌≡◌, if◌then◌else◌, Ok, Err, nat_le};
 ghost use Rattle.records.specs.Numbers.{right_number, right_of, phase_number, phase_of, kind_number, refusal_number, returned_number};
-ghost use Rattle.records.specs.declared.Refusal.TheVariants.{OutOfRange};
+ghost use Rattle.records.specs.declared.Refusal.TheVariants.{OutOfRange, RegisterFull};
 
 use crate::{Kind, Phase, Refusal, Right};
+use register::slice::Full;
 
 impl From<Right> for u8 {
     ghost from_gives = { λ right number. number ≡ right_number right };
@@ -107,5 +108,14 @@ pub fn returned_number(returned: Result<(), Refusal>) -> u8
     match returned {
         Ok(()) => 0,
         Err(refusal) => refusal.into(),
+    }
+}
+
+/// A register of badges or lots that is full.
+impl From<Full> for Refusal {
+    ghost from_gives = { λ _ refusal. refusal ≡ RegisterFull };
+
+    fn from(_full: Full) -> Refusal {
+        Refusal::RegisterFull
     }
 }

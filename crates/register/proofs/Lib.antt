@@ -3,3 +3,4 @@ pub mod Apart
 pub mod Totals
 pub mod Slices
 pub mod Rising
+pub mod Keys

@@ -1,6 +1,7 @@
 -- Members of lists: of appended ones, and of those that registers become when a record is struck, changed or entered.
 -- Assumes nothing.
 use Rattle.std.proofs.Common.{◌≡◌, suc, ◌≤◌, Bool, true, false, cond, ◌⊎◌, List, [], ◌∷◌, ◌++◌, length, is_some, Some, None, Option, unwrap_or, sym, refl, ap, ◌∙◌, subst, inl, inr, ⊎_elim, arith}
+use Rattle.std.specs.List.{find}
 use Rattle.register.specs.Lists.{In, first, some, without, changed, entered}
 use Rattle.register.specs.Tests.{by_test, by_option, not_both, none_some, not_passing}
 
@@ -8,6 +9,11 @@ module _ {X : Type 0} where
   pub in_append_split : (x : X) (xs ys : List X) → In x (xs ++ ys) → In x xs ⊎ In x ys
   in_append_split x [] ys i = inr i
   in_append_split x (y ∷ xs) ys i = ⊎_elim (λ h. inl (inl h)) (λ h. ⊎_elim (λ k. inl (inr k)) inr (in_append_split x xs ys h)) i
+
+  -- std's search finds the first that passes
+  pub find_is_first : (p : X → Bool) (xs : List X) → find p xs ≡ first p xs
+  find_is_first p [] = refl
+  find_is_first p (x ∷ xs) = ap (cond (p x) (Some x)) (find_is_first p xs)
 
   -- the first that passes is a member, and passes
   pub first_in : (p : X → Bool) (xs : List X) (x : X) → first p xs ≡ Some x → In x xs × (p x ≡ true)

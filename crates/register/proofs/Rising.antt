@@ -1,35 +1,31 @@
--- Whether a list rises, seen from its start on. Assumes nothing.
-use Rattle.std.proofs.Common.{◌≡◌, ℕ, ◌+◌, ◌-◌, ◌<◌, ◌≤◌, Bool, true, false, ◌&&◌, List, [], ◌∷◌, length, get_or, drop, sym, refl, ap, ◌∙◌, arith, length-drop}
-use Rattle.std.proofs.lemmas.List.{drop_more}
-use Rattle.register.specs.Lists.{before_next, rises}
+-- Whether a list rises, from what std's test of neighbours answers. Assumes nothing.
+use Rattle.std.proofs.Common.{◌≡◌, ℕ, zero, suc, ◌+◌, ◌<◌, Bool, true, false, ◌&&◌, List, [], ◌∷◌, length, get_or, refl, ap, subst, arith}
+use Rattle.std.specs.List.{AllAdjacentBelow, IsAllAdjacentAnswer}
+use Rattle.register.specs.Lists.{rises}
+use Rattle.register.specs.Tests.{by_test}
+
+one_on : (k : ℕ) → suc k + 1 ≡ suc (k + 1)
+one_on k = omega arith
 
 module _ {X : Type 0} (below : X → X → Bool) where
-  short_rises : (xs : List X) → length xs ≤ 1 → rises below xs ≡ true
-  short_rises [] h = refl
-  short_rises (x ∷ []) h = refl
-  short_rises (x ∷ y ∷ xs) h = absurd (omega arith)
+  all_pass : (xs : List X) → AllAdjacentBelow (λ x y. true ≡ below x y) xs (length xs) → true ≡ rises below xs
+  all_pass [] pass = refl
+  all_pass (x ∷ []) pass = refl
+  all_pass (x ∷ y ∷ ys) pass =
+      let here : true ≡ below x y = pass 0 x (omega arith) in
+      let later : true ≡ rises below (y ∷ ys) = all_pass (y ∷ ys) (λ k d h.
+      subst (λ n. true ≡ below (get_or (y ∷ ys) k d) (get_or (x ∷ y ∷ ys) n d)) (one_on k) (pass (suc k) d (omega arith))) in
+      λ i. here i && later i
 
-  -- at a place that has a next one
-  rises_at : (xs : List X) (i : ℕ) (x y : X) → i + 1 < length xs → x ≡ get_or xs i x → y ≡ get_or xs (i + 1) y →
-      rises below (drop i xs) ≡ (below x y && rises below (drop (i + 1) xs))
-  rises_at xs i x y h e f =
-      let here : drop i xs ≡ x ∷ drop (i + 1) xs = drop_more xs i x (omega arith) ∙ ap (λ v. v ∷ drop (i + 1) xs) (sym e) in
-      let next : drop (i + 1) xs ≡ y ∷ drop (i + 1 + 1) xs = drop_more xs (i + 1) y h ∙ ap (λ v. v ∷ drop (i + 1 + 1) xs) (sym f) in
-      ap (rises below) here ∙ ap (λ ys. before_next below x ys && rises below (drop (i + 1) xs)) next
+  one_fails : (xs : List X) (k : ℕ) → k + 1 < length xs → ((d : X) → false ≡ below (get_or xs k d) (get_or xs (k + 1) d)) → false ≡ rises below xs
+  one_fails [] k h fails = absurd (omega arith)
+  one_fails (x ∷ []) k h fails = absurd (omega arith)
+  one_fails (x ∷ y ∷ ys) zero h fails = ap (λ b. b && rises below (y ∷ ys)) (fails x)
+  one_fails (x ∷ y ∷ ys) (suc k) h fails =
+      by_test (below x y) (λ b. false ≡ (b && rises below (y ∷ ys)))
+      (λ _. one_fails (y ∷ ys) k (omega arith) (λ d.
+      subst (λ n. false ≡ below (get_or (y ∷ ys) k d) (get_or (x ∷ y ∷ ys) n d)) (one_on k) (fails d))) (λ _. refl)
 
-  module _ (xs : List X) (at : ℕ) (low : 1 ≤ at) where
-    pub rises_more : (x y : X) → at < length xs → x ≡ get_or xs (at - 1) x → y ≡ get_or xs at y → below x y ≡ true → rises below (drop (at - 1) xs) ≡ rises below xs →
-        rises below (drop (at + 1 - 1) xs) ≡ rises below xs
-    rises_more x y h e f t inv =
-        let back : at - 1 + 1 ≡ at = omega arith in
-        let same : at + 1 - 1 ≡ at = omega arith in
-        ap (λ n. rises below (drop n xs)) same ∙ sym (ap (λ n. rises below (drop n xs)) back)
-        ∙ sym (rises_at xs (at - 1) x y (omega arith) e (f ∙ ap (λ n. get_or xs n y) (sym back)) ∙ ap (λ b. b && rises below (drop (at - 1 + 1) xs)) t) ∙ inv
-
-    pub rises_not : (x y : X) → at < length xs → x ≡ get_or xs (at - 1) x → y ≡ get_or xs at y → below x y ≡ false → rises below (drop (at - 1) xs) ≡ rises below xs → false ≡ rises below xs
-    rises_not x y h e f t inv =
-        let back : at - 1 + 1 ≡ at = omega arith in
-        sym (rises_at xs (at - 1) x y (omega arith) e (f ∙ ap (λ n. get_or xs n y) (sym back)) ∙ ap (λ b. b && rises below (drop (at - 1 + 1) xs)) t) ∙ inv
-
-    pub rises_all : length xs ≤ at → rises below (drop (at - 1) xs) ≡ rises below xs → true ≡ rises below xs
-    rises_all h inv = sym (short_rises (drop (at - 1) xs) (omega (arith, length-drop (at - 1) xs))) ∙ inv
+  pub rises_answered : (xs : List X) (r : Bool) → IsAllAdjacentAnswer (λ x y b. b ≡ below x y) xs r → r ≡ rises below xs
+  rises_answered xs true pass = all_pass xs pass
+  rises_answered xs false fail = one_fails xs fail.0 fail.1 fail.2

@@ -1,37 +1,39 @@
 -- Places in lists: the first that passes stands at its spot, a register changes there, and what a slice becomes that
 -- holds the register in its first places. Assumes nothing.
-use Rattle.std.proofs.Common.{◌≡◌, ℕ, suc, ◌+◌, ◌-◌, ◌<◌, ◌≤◌, min, Bool, true, false, cond, ltb, List, [], ◌∷◌, ◌++◌, length, get_or, take, drop, set, is_some, Some, None, sym, refl, ap, ◌∙◌, add-one, arith}
+use Rattle.std.proofs.Common.{◌≡◌, ℕ, suc, ◌+◌, ◌-◌, ◌<◌, ◌≤◌, min, Bool, true, false, cond, ltb, List, [], ◌∷◌, ◌++◌, length, get_or, take, drop, set, is_some, not, unwrap_or, Some, None, Option, sym, refl, ap, ◌∙◌, add-one, arith}
 use borrow.Rule.Slice.PartMut.{put_mid, post_of}
 use Rattle.std.proofs.lemmas.List.{at_drop_more, append_assoc, append-nil, take-append-drop, set-append_left, set_at, length-take, length-take-le, take_at, take_all, take-take, get_or-take, drop_all, drop-drop, drop_more}
 use Rattle.std.proofs.lemmas.Slice.{between_is}
 use Rattle.std.proofs.lemmas.List.Edits.{length-between}
 use Rattle.std.proofs.lemmas.Bool.Decides.{nat_tests}
-use Rattle.std.specs.List.{between, insert, remove}
+use Rattle.std.specs.List.{between, insert, remove, position, position_or_len}
 use Rattle.register.specs.Lists.{first, some, without, changed, entered}
-use Rattle.register.specs.Slices.{spot, insertion}
-use Rattle.register.specs.declared.slice.Inserted.TheVariants.{Added, Replaced, Full}
-use Rattle.register.specs.Tests.{by_test, by_option, not_both, not_below}
+use Rattle.register.specs.Slices.{spot}
+use Rattle.register.specs.Tests.{by_test, not_below}
 use Rattle.register.proofs.Lists.{changed_none, length_changed, length_entered, length_without}
 
 module _ {X : Type 0} (p : X → Bool) where
-  -- a search that has come to a place: the member there passes, or does not
-  spot_more : (xs : List X) (i : ℕ) (x : X) (b : Bool) → i < length xs → x ≡ get_or xs i x → p x ≡ b →
-      spot p (drop i xs) ≡ cond b 0 (suc (spot p (drop (i + 1) xs)))
-  spot_more xs i x b h e t =
-      let step : spot p (drop i xs) ≡ cond (p (get_or xs i x)) 0 (suc (spot p (drop (i + 1) xs))) = at_drop_more (spot p) xs i x h in
-      step ∙ ap (λ v. cond v 0 (suc (spot p (drop (i + 1) xs)))) (ap p (sym e) ∙ t)
+  -- the spot is where std's search stops, and no further than the list's end
+  spot_stops : (xs : List X) → position_or_len p xs ≡ spot p xs
+  spot_stops [] = refl
+  spot_stops (x ∷ xs) =
+      by_test (p x) (λ b. cond (not b) (1 + position_or_len p xs) 0 ≡ cond b 0 (suc (spot p xs)))
+      (λ _. refl) (λ _. let later : position_or_len p xs ≡ spot p xs = spot_stops xs in omega arith)
 
-  pub spot_here : (xs : List X) (i : ℕ) (x : X) → i < length xs → x ≡ get_or xs i x → p x ≡ true → i + spot p (drop i xs) ≡ spot p xs → i ≡ spot p xs
-  spot_here xs i x h e t so_far = let step : spot p (drop i xs) ≡ 0 = spot_more xs i x true h e t in omega arith
+  spot_within : (xs : List X) → spot p xs ≤ length xs
+  spot_within [] = omega arith
+  spot_within (x ∷ xs) =
+      by_test (p x) (λ b. cond b 0 (suc (spot p xs)) ≤ suc (length xs))
+      (λ _. omega arith) (λ _. let later : spot p xs ≤ length xs = spot_within xs in omega arith)
 
-  pub spot_later : (xs : List X) (i : ℕ) (x : X) → i < length xs → x ≡ get_or xs i x → p x ≡ false → i + spot p (drop i xs) ≡ spot p xs →
-      (i + 1) + spot p (drop (i + 1) xs) ≡ spot p xs
-  spot_later xs i x h e t so_far =
-      let step : spot p (drop i xs) ≡ suc (spot p (drop (i + 1) xs)) = spot_more xs i x false h e t in
-      omega arith
-
-  pub spot_nowhere : (xs : List X) (i : ℕ) → i ≤ length xs → length xs ≤ i → i + spot p (drop i xs) ≡ spot p xs → length xs ≡ spot p xs
-  spot_nowhere xs i h k so_far = let none : spot p (drop i xs) ≡ 0 = ap (spot p) (drop_all i xs k) in omega arith
+  -- the place that std's search gives, or the length
+  pub spot_searched : (xs : List X) (place : Option ℕ) → place ≡ position p xs → unwrap_or place (length xs) ≡ spot p xs
+  spot_searched xs place e =
+      ap (λ o. unwrap_or o (length xs)) e
+      ∙ by_test (ltb (position_or_len p xs) (length xs)) (λ b. ltb (position_or_len p xs) (length xs) ≡ b → unwrap_or (cond b (Some (position_or_len p xs)) None) (length xs) ≡ spot p xs)
+      (λ _ _. spot_stops xs)
+      (λ _ t. let past : length xs ≤ position_or_len p xs = not_below (position_or_len p xs) (length xs) t in omega (arith, spot_stops xs, spot_within xs))
+      refl
 
   -- the first that passes stands at the spot, and where the spot is past the list, none passes
   pub first_at_spot : (xs : List X) (d : X) → spot p xs < length xs → first p xs ≡ Some (get_or xs (spot p xs) d)
@@ -45,12 +47,6 @@ module _ {X : Type 0} (p : X → Bool) where
   first_no_spot (x ∷ xs) h =
       by_test (p x) (λ b. suc (length xs) ≤ cond b 0 (suc (spot p xs)) → cond b (Some x) (first p xs) ≡ None)
       (λ _ k. absurd (omega arith)) (λ _ k. first_no_spot xs (omega arith)) h
-
-  pub some_at_spot : (xs : List X) (d : X) → spot p xs < length xs → some p xs ≡ true
-  some_at_spot xs d h = ap is_some (first_at_spot xs d h)
-
-  pub some_no_spot : (xs : List X) → length xs ≤ spot p xs → some p xs ≡ false
-  some_no_spot xs h = ap is_some (first_no_spot xs h)
 
   -- changes are made at the spot
   pub changed_at_spot : (new : X) (xs : List X) → changed p (λ _. new) xs ≡ set xs (spot p xs) new
@@ -151,29 +147,10 @@ module _ {X : Type 0} where
       ∙ ap (λ zs. zs ++ (drop (suc at) (take count s) ++ (old ∷ drop count s))) front
       ∙ sym (append_assoc (take at (take count s)) (drop (suc at) (take count s)) (old ∷ drop count s))
 
--- what becomes of a record
 -- a register in which none passes is not changed
-module _ {X : Type 0} (p : X → Bool) (n : ℕ) (s : List X) (new : X) (none : some p (take n s) ≡ false) where
-  pub unreplaced_register : changed p (λ _. new) (take n s) ≡ take n s
-  unreplaced_register =
-      by_option (first p (take n s)) (λ o. first p (take n s) ≡ o → changed p (λ _. new) (take n s) ≡ take n s)
-      (λ _ e. changed_none p (λ _. new) (take n s) e) (λ x _ e. not_both (some p (take n s)) (ap is_some e) none) refl
-
+module _ {X : Type 0} (p : X → Bool) (n : ℕ) (s : List X) (new : X) (none : first p (take n s) ≡ None) where
   pub unreplaced_slice : changed p (λ _. new) (take n s) ++ drop n s ≡ s
-  unreplaced_slice = ap (λ xs. xs ++ drop n s) unreplaced_register ∙ take-append-drop n s
-
-pub insertion_replaced : (there free : Bool) → there ≡ true → Replaced ≡ insertion there free
-insertion_replaced there free e = ap (λ b. insertion b free) (sym e)
-
-pub insertion_added : (there : Bool) (m n : ℕ) → there ≡ false → m < n → Added ≡ insertion there (ltb m n)
-insertion_added there m n e h =
-    let free : ltb m n ≡ true = grind (arith, nat_tests) in
-    ap (λ b. insertion false b) (sym free) ∙ ap (λ b. insertion b (ltb m n)) (sym e)
-
-pub insertion_full : (there : Bool) (m n : ℕ) → there ≡ false → n ≤ m → Full ≡ insertion there (ltb m n)
-insertion_full there m n e h =
-    let free : ltb m n ≡ false = grind (arith, nat_tests) in
-    ap (λ b. insertion false b) (sym free) ∙ ap (λ b. insertion b (ltb m n)) (sym e)
+  unreplaced_slice = ap (λ xs. xs ++ drop n s) (changed_none p (λ _. new) (take n s) none) ∙ take-append-drop n s
 
 -- a slice whose first n places hold the register xs, and the place of it that a search came to
 module _ {X : Type 0} (p : X → Bool) (n : ℕ) (s xs : List X) (at : ℕ) (held : xs ≡ take n s) (found : at ≡ spot p xs) where
@@ -192,10 +169,7 @@ module _ {X : Type 0} (p : X → Bool) (n : ℕ) (s xs : List X) (at : ℕ) (hel
   found_nowhere h = sym (first_no_spot p xs (omega arith)) ∙ ap (first p) held
 
   pub some_there : X → at < length xs → some p (take n s) ≡ true
-  some_there d h = ap (some p) (sym held) ∙ some_at_spot p xs d (omega arith)
-
-  pub some_nowhere : length xs ≤ at → some p (take n s) ≡ false
-  some_nowhere h = ap (some p) (sym held) ∙ some_no_spot p xs (omega arith)
+  some_there d h = ap (some p) (sym held) ∙ ap is_some (first_at_spot p xs d (omega arith))
 
   pub within_slice : length xs ≤ length s
   within_slice = omega (arith, long, length-take n s)

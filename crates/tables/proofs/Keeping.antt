@@ -1,5 +1,5 @@
 -- What the tables keep is kept by every change of them, and bounds heads. Assumes nothing.
-use Rattle.std.proofs.Common.{◌≡◌, ℕ, ◌+◌, ◌-◌, ◌≤◌, Bool, true, false, List, [], ◌∷◌, ◌++◌, length, Some, sym, refl, ◌∙◌, subst, arith}
+use Rattle.std.proofs.Common.{◌≡◌, ℕ, ◌+◌, ◌-◌, ◌≤◌, Bool, true, false, cond, List, [], ◌∷◌, ◌++◌, length, Some, sym, refl, ◌∙◌, subst, arith}
 use Rattle.register.specs.Lists.{In, first, some, without, changed}
 use Rattle.register.specs.Tests.{eqb_equal}
 use Rattle.register.proofs.Lists.{first_in, in_without, all_changed, all_append}
@@ -100,3 +100,10 @@ heads_few lots xs next few h l i = omega (arith, h.heads_counted l i, open_at_mo
 pub kept_at : (lots more_lots : List Lot) (xs more : List Access) (next : ℕ) → more_lots ≡ lots → more ≡ xs → Kept lots xs next → Kept more_lots more next
 kept_at lots more_lots xs more next e f h =
     subst (λ (v : List Lot). Kept v more next) (sym e) (subst (λ (v : List Access). Kept lots v next) (sym f) h)
+
+-- a lot that was put in, or had no place
+pub kept_put_if : (b : Bool) (c : List ℕ) (level role stop limit : ℕ) (prices : List ℕ) (lots more : List Lot) (xs : List Access) (next : ℕ) →
+    more ≡ cond b (put_lot (new_lot c level role stop limit prices) lots) lots → Kept lots xs next → Kept more xs next
+kept_put_if true c level role stop limit prices lots more xs next e h =
+    kept_at _ _ _ _ _ e refl (kept_put c level role stop limit prices lots xs next h)
+kept_put_if false c level role stop limit prices lots more xs next e h = kept_at _ _ _ _ _ e refl h

@@ -64,8 +64,3 @@ in_range badges lots e f few_badges few_lots = record {
 
 pub without_heads : (lots : List Lot) → all lot_fits lots ≡ true → (l : Lot) → In l lots → l.heads ≡ 0
 without_heads lots e l i = no_heads l (all_in lot_fits lots e l i)
-
--- a new scene from equal registers
-pub scene_made : (badges more_badges : List Badge) (lots more_lots : List Lot) → more_badges ≡ badges → more_lots ≡ lots →
-    new_scene more_badges more_lots ≡ new_scene badges lots
-scene_made badges more_badges lots more_lots e f = ap (λ x. new_scene x more_lots) e ∙ ap (new_scene badges) f

@@ -1,22 +1,19 @@
 //! Open accesses: what an open asks for, how an access enters and is struck, and what is noted of it in between.
-ghost use Rattle.std.specs.Prelude.{◌≡◌, ℕ, ◌+◌, ◌≤◌, true, ◌&&◌, length, take, IfOk, if◌then◌else◌, Some, ◌==◌, nat_le, nat_lt};
-ghost use Rattle.register.specs.Lists.{In, first, some};
-ghost use Rattle.records.specs.declared.Lot.{Lot};
-ghost use Rattle.records.specs.Numbers.{right_of, returned_number};
+ghost use Rattle.std.specs.Prelude.{◌≡◌, ◌+◌, true, ◌&&◌, length, IfOk, if◌then◌else◌, Some, ◌==◌, nat_le, nat_lt};
+ghost use Rattle.register.specs.Lists.{first, some};
+ghost use Rattle.records.specs.Numbers.{right_of};
 ghost use Rattle.records.specs.Parts.{price_of};
-ghost use Rattle.machine.specs.State.{is_access, is_lot, access_of, raise, lower};
+ghost use Rattle.machine.specs.State.{is_access, is_lot, access_of, lower};
 ghost use Rattle.machine.specs.Sweep.{enter};
 ghost use Rattle.machine.specs.Checks.{first_applying, open_checks, access_checks, use_checks};
 ghost use Rattle.machine.specs.Lines.{asked};
 ghost use Rattle.machine.specs.Scenes.{use_scene, duty_scene};
-ghost use Rattle.tables.specs.Tables.{scene_of, unbooked, struck, if_passed, Checked};
+ghost use Rattle.tables.specs.Tables.{scene_of, unbooked, struck, Changes, Checked};
 
-use crate::table::Tables;
-use crate::table::search::{Sought, is_open};
+use crate::table::{Tables, check_range, check_sheet};
 use ranges::{badge_number_fits, code_fits, serial_fits, units_fit};
-use records::{Access, Lot, Returned, Right};
-use register::slice::{find, remove, replace};
-use usage::number::{right_number, right_of};
+use records::{Access, Lot, Refusal, Right};
+use register::bounded::Register;
 
 impl Tables {
     /// The access that an open asks for, as it would be opened.
@@ -27,38 +24,22 @@ impl Tables {
         lot: [u8; 8],
         right: u32,
         units: u32,
-    ) -> Result<Access, Returned>
+    ) -> Result<Access, Refusal>
         ensures { Checked (first_applying (open_checks (unbooked self.now) sheet badge lot right units)) (asked (scene_of self.now) badge lot (right_of right) units self.now.next_serial) result }
     {
-        if sheet < 65 {
-            return Err(Returned::ShortSheet);
+        check_sheet(sheet)?;
+        check_range(badge_number_fits(badge) && code_fits(&lot) && units_fit(units))?;
+        let right = Right::try_from(right)?;
+        let holder = self.badge(badge).ok_or(Refusal::NoBadge)?;
+        let place = self.lot(&lot).ok_or(Refusal::NoLot)?;
+        if self.has_open(badge, &lot, right) {
+            return Err(Refusal::AlreadyOpen);
         }
-        if !badge_number_fits(badge) {
-            return Err(Returned::OutOfRange);
-        }
-        if !code_fits(&lot) {
-            return Err(Returned::OutOfRange);
-        }
-        let Some(right) = right_of(right) else {
-            return Err(Returned::OutOfRange);
-        };
-        if !units_fit(units) {
-            return Err(Returned::OutOfRange);
-        }
-        let Some(holder) = self.badge(badge) else {
-            return Err(Returned::NoBadge);
-        };
-        let Some(place) = self.lot(&lot) else {
-            return Err(Returned::NoLot);
-        };
-        if is_open(self.accesses(), &Sought::OfBadgeAtLot(badge, lot, right)) {
-            return Err(Returned::AlreadyOpen);
-        }
-        if self.access_count >= 64 {
-            return Err(Returned::AccessesFull);
+        if self.accesses.is_full() {
+            return Err(Refusal::AccessesFull);
         }
         if self.next_serial > 1_000_000_000 {
-            return Err(Returned::SerialsSpent);
+            return Err(Refusal::SerialsSpent);
         }
         Ok(Access {
             serial: self.next_serial,
@@ -76,70 +57,44 @@ impl Tables {
     }
 
     /// The open access that an end names.
-    pub fn named(&self, sheet: usize, serial: u32) -> Result<Access, Returned>
+    pub fn named(&self, sheet: usize, serial: u32) -> Result<Access, Refusal>
         ensures checked { Checked (first_applying (access_checks (scene_of self.now) sheet serial true)) (access_of (scene_of self.now) serial) result }
         ensures found { IfOk result (λ a. first (is_access serial) (scene_of self.now).accesses ≡ Some a) }
     {
-        if sheet < 65 {
-            return Err(Returned::ShortSheet);
-        }
-        if !serial_fits(serial) {
-            return Err(Returned::OutOfRange);
-        }
-        match self.access(serial) {
-            Some(access) => Ok(access),
-            None => Err(Returned::NoAccess),
-        }
+        check_sheet(sheet)?;
+        check_range(serial_fits(serial))?;
+        self.access(serial).ok_or(Refusal::NoAccess)
     }
 
     /// Units are used of an open access.
-    pub fn use_units(&mut self, sheet: usize, serial: u32, units: u32) -> Returned
-        ensures returned { returned_number result ≡ first_applying (use_checks (scene_of self.old) sheet serial units) }
-        ensures scene { scene_of self.new ≡ if_passed (returned_number result) (use_scene serial units (scene_of self.old)) (scene_of self.old) }
-        ensures serial { self.new.next_serial ≡ self.old.next_serial }
+    pub fn use_units(&mut self, sheet: usize, serial: u32, units: u32) -> Result<(), Refusal>
+        ensures { Changes (first_applying (use_checks (scene_of self.old) sheet serial units)) (use_scene serial units (scene_of self.old)) self.old result self.new }
     {
-        if sheet < 65 {
-            return Returned::ShortSheet;
-        }
-        if !serial_fits(serial) {
-            return Returned::OutOfRange;
-        }
-        if !units_fit(units) {
-            return Returned::OutOfRange;
-        }
-        let Some(access) = self.access(serial) else {
-            return Returned::NoAccess;
-        };
+        check_sheet(sheet)?;
+        check_range(serial_fits(serial) && units_fit(units))?;
+        let access = self.access(serial).ok_or(Refusal::NoAccess)?;
         let used = u32::from(access.used) + units;
         if used > u32::from(access.held) {
-            return Returned::UnitsSpent;
+            return Err(Refusal::UnitsSpent);
         }
-        let access = Access {
+        self.accesses.replace(Access {
             used: used as u16,
             last_use: self.room.clock,
             ..access
-        };
-        let _ = replace(&mut self.accesses, self.access_count, access);
-        Returned::Accepted
+        });
+        Ok(())
     }
 
     /// The duty of an open access is done.
-    pub fn duty(&mut self, sheet: usize, serial: u32) -> Returned
-        ensures returned { returned_number result ≡ first_applying (access_checks (scene_of self.old) sheet serial true) }
-        ensures scene { scene_of self.new ≡ if_passed (returned_number result) (duty_scene serial (scene_of self.old)) (scene_of self.old) }
-        ensures serial { self.new.next_serial ≡ self.old.next_serial }
+    pub fn duty(&mut self, sheet: usize, serial: u32) -> Result<(), Refusal>
+        ensures { Changes (first_applying (access_checks (scene_of self.old) sheet serial true)) (duty_scene serial (scene_of self.old)) self.old result self.new }
     {
-        match self.named(sheet, serial) {
-            Ok(access) => {
-                let access = Access {
-                    last_duty: self.room.clock,
-                    ..access
-                };
-                let _ = replace(&mut self.accesses, self.access_count, access);
-                Returned::Accepted
-            }
-            Err(refusal) => refusal,
-        }
+        let access = self.named(sheet, serial)?;
+        self.accesses.replace(Access {
+            last_duty: self.room.clock,
+            ..access
+        });
+        Ok(())
     }
 
     /// An access enters at the last place, its lot has one head more, and the next serial rises. Nothing changes where
@@ -150,21 +105,19 @@ impl Tables {
         ensures scene { scene_of self.new ≡ (if result then enter access.now (scene_of self.old) else scene_of self.old) }
         ensures serial { self.new.next_serial ≡ (if result then self.old.next_serial + 1 else self.old.next_serial) }
     {
-        if self.access_count >= 64 {
+        if self.next_serial > 1_000_000_000 || access.serial != self.next_serial {
             return false;
         }
-        if self.next_serial > 1_000_000_000 {
+        let Some(lot) = self.lot(&access.lot) else {
+            return false;
+        };
+        if self.accesses.push(*access).is_err() {
             return false;
         }
-        if access.serial != self.next_serial {
-            return false;
-        }
-        if self.lot(&access.lot).is_none() {
-            return false;
-        }
-        raise(&mut self.lots, self.lot_count, &access.lot);
-        self.accesses[self.access_count] = *access;
-        self.access_count += 1;
+        self.lots.replace(Lot {
+            heads: lot.heads + 1,
+            ..lot
+        });
         self.next_serial += 1;
         true
     }
@@ -174,43 +127,22 @@ impl Tables {
         ensures scene { scene_of self.new ≡ struck serial (scene_of self.old) }
         ensures serial { self.new.next_serial ≡ self.old.next_serial }
     {
-        if let Some(access) = remove(&mut self.accesses, self.access_count, &serial) {
-            self.access_count -= 1;
-            lower(&mut self.lots, self.lot_count, &access.lot);
+        if let Some(access) = self.accesses.remove(&serial) {
+            lower(&mut self.lots, &access.lot);
         }
     }
 }
 
-// One head more at the lot of a code.
-fn raise(lots: &mut [Lot], count: usize, code: &[u8; 8])
-    requires { (l : Lot) → In l (take count lots.old) → l.heads ≤ 64 }
-    ensures { take count lots.new ≡ raise code.now (take count lots.old) }
-{
-    if let Some(lot) = find(lots, count, code) {
-        let _ = replace(
-            lots,
-            count,
-            Lot {
-                heads: lot.heads + 1,
-                ..lot
-            },
-        );
-    }
-}
-
 // One head fewer at the lot of a code.
-fn lower(lots: &mut [Lot], count: usize, code: &[u8; 8])
-    ensures { take count lots.new ≡ lower code.now (take count lots.old) }
+fn lower(lots: &mut Register<Lot, 64>, code: &[u8; 8])
+    ensures after { lots.new ≡ lower code.now lots.old }
+    ensures many { length lots.new ≡ length lots.old }
 {
-    if let Some(lot) = find(lots, count, code) {
-        let _ = replace(
-            lots,
-            count,
-            Lot {
-                heads: lot.heads.saturating_sub(1),
-                ..lot
-            },
-        );
+    if let Some(lot) = lots.find(code) {
+        lots.replace(Lot {
+            heads: lot.heads.saturating_sub(1),
+            ..lot
+        });
     }
 }
 
@@ -218,5 +150,5 @@ fn lower(lots: &mut [Lot], count: usize, code: &[u8; 8])
 fn price_of(lot: &Lot, right: Right) -> u16
     ensures { result ≡ price_of lot.now right }
 {
-    lot.prices[right_number(right) as usize]
+    lot.prices[usize::from(u8::from(right))]
 }

@@ -1,54 +1,53 @@
 //! Questions about the tables, which change nothing.
 ghost use Rattle.std.specs.Prelude.{◌≡◌};
-ghost use Rattle.register.specs.Lists.{first};
-ghost use Rattle.machine.specs.State.{is_badge, is_lot, is_access, situation};
+ghost use Rattle.register.specs.Lists.{first, some};
+ghost use Rattle.machine.specs.State.{is_badge, is_lot, is_access, of_badge, at_lot, of_badge_at_lot, situation};
 ghost use Rattle.tables.specs.Tables.{scene_of};
 
 use crate::table::{NO_BADGE, NO_LOT, Tables};
-use records::{Access, Badge, Lot, Room, Situation};
-use register::slice::find;
+use records::{Access, Badge, Lot, Right, Room, Situation};
 
 impl Tables {
     /// The badge of a number.
     pub fn badge(&self, number: u32) -> Option<Badge>
         ensures { result ≡ first (is_badge number) (scene_of self.now).badges }
     {
-        find(&self.badges, self.badge_count, &number)
+        self.badges.find(&number)
     }
 
     /// The lot of a code.
     pub fn lot(&self, code: &[u8; 8]) -> Option<Lot>
         ensures { result ≡ first (is_lot code.now) (scene_of self.now).lots }
     {
-        find(&self.lots, self.lot_count, code)
+        self.lots.find(code)
     }
 
     /// The open access of a serial.
     pub fn access(&self, serial: u32) -> Option<Access>
         ensures { result ≡ first (is_access serial) (scene_of self.now).accesses }
     {
-        find(&self.accesses, self.access_count, &serial)
+        self.accesses.find(&serial)
     }
 
     /// The badges, by rising number.
     pub fn badges(&self) -> &[Badge]
         ensures { result.now ≡ (scene_of self.now).badges }
     {
-        &self.badges[0..self.badge_count]
+        self.badges.as_slice()
     }
 
     /// The lots, by rising code.
     pub fn lots(&self) -> &[Lot]
         ensures { result.now ≡ (scene_of self.now).lots }
     {
-        &self.lots[0..self.lot_count]
+        self.lots.as_slice()
     }
 
     /// The open accesses, as they were opened.
     pub fn accesses(&self) -> &[Access]
         ensures { result.now ≡ (scene_of self.now).accesses }
     {
-        &self.accesses[0..self.access_count]
+        self.accesses.as_slice()
     }
 
     /// The room.
@@ -75,5 +74,28 @@ impl Tables {
             room: self.room,
             access: *access,
         }
+    }
+
+    /// Whether an access of a badge is open.
+    pub fn has_open_of(&self, badge: u32) -> bool
+        ensures { result ≡ some (of_badge badge) (scene_of self.now).accesses }
+    {
+        self.accesses().iter().any(|access| access.badge == badge)
+    }
+
+    /// Whether an access at a lot is open.
+    pub fn has_open_at(&self, lot: &[u8; 8]) -> bool
+        ensures { result ≡ some (at_lot lot.now) (scene_of self.now).accesses }
+    {
+        self.accesses().iter().any(|access| access.lot == *lot)
+    }
+
+    /// Whether a badge has a lot open under a right.
+    pub fn has_open(&self, badge: u32, lot: &[u8; 8], right: Right) -> bool
+        ensures { result ≡ some (of_badge_at_lot badge lot.now right) (scene_of self.now).accesses }
+    {
+        self.accesses().iter().any(|access| access.badge == badge
+            && access.lot == *lot
+            && access.right == right)
     }
 }

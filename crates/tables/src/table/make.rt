@@ -1,13 +1,16 @@
 //! How tables are made: with a first serial and registers, which are in range, in order and without heads.
-ghost use Rattle.std.specs.Prelude.{◌≡◌, ◌≤◌, Bool, length, take, MatchResult};
+ghost use Rattle.std.specs.Prelude.{◌≡◌, Bool, MatchResult};
 ghost use Rattle.register.specs.Lists.{all};
+ghost use Rattle.records.specs.Ranges.{prices_fit};
 ghost use Rattle.machine.specs.Checks.{first_applying};
+ghost use Rattle.tables.specs.declared.table.make.Unmade.TheVariants.{RegisterFull};
 ghost use Rattle.tables.specs.Made.{unmade_number, badge_fits, lot_fits, maker_checks, Made};
 
 use crate::table::{NO_BADGE, NO_LOT, Tables};
-use ranges::{attribute_fits, badge_number_fits, code_fits, limit_fits, prices_fit, serial_fits};
+use ranges::{attribute_fits, badge_number_fits, code_fits, limit_fits, price_fits, serial_fits};
 use records::{Access, Badge, Lot, Phase, Right, Room};
-use register::slice::rises;
+use register::bounded::Register;
+use register::slice::{Full, rises};
 
 /// Why tables are not made.
 #[derive(Clone, Copy, PartialEq, Eq, Debug)]
@@ -15,6 +18,14 @@ pub enum Unmade {
     OutOfRange,
     RegisterFull,
     OutOfOrder,
+}
+
+impl From<Full> for Unmade {
+    ghost from_gives = { λ _ unmade. unmade ≡ RegisterFull };
+
+    fn from(_full: Full) -> Unmade {
+        Unmade::RegisterFull
+    }
 }
 
 // What stands in the places of accesses that are free.
@@ -37,38 +48,21 @@ impl Tables {
     pub fn new(first_serial: u32, badges: &[Badge], lots: &[Lot]) -> Result<Tables, Unmade>
         ensures { MatchResult result (λ t. (first_applying (maker_checks first_serial badges.now lots.now) ≡ 0) × Made first_serial badges.now lots.now t) (λ e. unmade_number e ≡ first_applying (maker_checks first_serial badges.now lots.now)) }
     {
-        if !serial_fits(first_serial) {
+        if !serial_fits(first_serial) || !all_fit(badges) || !all_fit(lots) {
             return Err(Unmade::OutOfRange);
         }
-        if !all_fit(badges) {
-            return Err(Unmade::OutOfRange);
-        }
-        if !all_fit(lots) {
-            return Err(Unmade::OutOfRange);
-        }
-        if badges.len() > 64 {
-            return Err(Unmade::RegisterFull);
-        }
-        if lots.len() > 64 {
-            return Err(Unmade::RegisterFull);
-        }
+        let badge_register = Register::with_records(NO_BADGE, badges)?;
+        let lot_register = Register::with_records(NO_LOT, lots)?;
         if !rises(badges) {
             return Err(Unmade::OutOfOrder);
         }
         if !rises(lots) {
             return Err(Unmade::OutOfOrder);
         }
-        let mut badge_places = [NO_BADGE; 64];
-        place(&mut badge_places, badges);
-        let mut lot_places = [NO_LOT; 64];
-        place(&mut lot_places, lots);
         Ok(Tables {
-            badges: badge_places,
-            badge_count: badges.len(),
-            lots: lot_places,
-            lot_count: lots.len(),
-            accesses: [NO_ACCESS; 64],
-            access_count: 0,
+            badges: badge_register,
+            lots: lot_register,
+            accesses: Register::new(NO_ACCESS),
             room: Room {
                 clock: 0,
                 temperature: 0,
@@ -106,7 +100,7 @@ impl Ranged for Lot {
             && attribute_fits(u32::from(self.level))
             && attribute_fits(u32::from(self.role))
             && limit_fits(u32::from(self.limit))
-            && prices_fit(&widened(self.prices))
+            && prices_fit(&self.prices)
             && self.heads == 0
     }
 }
@@ -115,31 +109,12 @@ impl Ranged for Lot {
 fn all_fit<T: Ranged>(records: &[T]) -> bool
     ensures { result ≡ all T.Ranged.fit records.now }
 {
-    for item in records {
-        if !item.fits() {
-            return false;
-        }
-    }
-    true
+    records.iter().all(|record| record.fits())
 }
 
-// Copies records to the first places of a slice.
-fn place<T: Copy>(places: &mut [T], records: &[T])
-    requires { length records.now ≤ length places.old }
-    ensures { take (length records.now) places.new ≡ records.now }
+// Whether the four prices of a lot are in range.
+fn prices_fit(prices: &[u16; 4]) -> bool
+    ensures { result ≡ prices_fit prices.now }
 {
-    places[0..records.len()].copy_from_slice(records);
-}
-
-// Four prices, as a terminal sends them.
-fn widened(prices: [u16; 4]) -> [u32; 4]
-    ensures { result ≡ prices }
-{
-    let [read, weigh, label, release] = prices;
-    [
-        u32::from(read),
-        u32::from(weigh),
-        u32::from(label),
-        u32::from(release),
-    ]
+    prices.iter().all(|price| price_fits(u32::from(*price)))
 }

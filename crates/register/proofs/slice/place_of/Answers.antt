@@ -1,23 +1,13 @@
 -- The first that has the key stands where the search stops. Assumes nothing.
-use Rattle.std.proofs.Common.{◌≡◌, true, false, arith}
-use Rattle.register.proofs.Slices.{spot_here, spot_later, spot_nowhere}
+use Rattle.std.proofs.Common.{Bool, ◌∙◌, rules}
+use Rattle.std.proofs.lemmas.Iterator.{YieldsList-from_slice}
+use Rattle.std.proofs.lemmas.Iterator.Search.{position_from_yields_List}
+use borrow.Author.Tests.{tests}
+use Rattle.register.proofs.Slices.{spot_searched}
 use Rattle.register.proofs.slice.place_of.Goals as goal
 
-pub returns-then-is_same : goal.returns-then-is_same
-returns-then-is_same g c =
-    let passes : g.T.Key.Key.same (g.T.Keyed.keyed c.index-records-i.result) c.args.key.now ≡ true = cc in
-    record {
-      place = spot_here (λ x. g.T.Key.Key.same (g.T.Keyed.keyed x) c.args.key.now) c.args.records.now c.loop-i.i c.index-records-i.result (omega arith) c.index-records-i.is passes c.loop-i.invariant;
-      within = omega arith;
-    }
-
-pub loop-i-preserved : goal.loop-i-preserved
-loop-i-preserved g c =
-    let fails : g.T.Key.Key.same (g.T.Keyed.keyed c.index-records-i.result) c.args.key.now ≡ false = cc in
-    spot_later (λ x. g.T.Key.Key.same (g.T.Keyed.keyed x) c.args.key.now) c.args.records.now c.loop-i.i c.index-records-i.result (omega arith) c.index-records-i.is fails c.loop-i.invariant
-
-pub returns : goal.returns
-returns g c = record {
-  place = spot_nowhere (λ x. g.T.Key.Key.same (g.T.Keyed.keyed x) c.args.key.now) c.args.records.now c.loop-i.i (omega arith) (omega arith) c.loop-i.invariant;
-  within = omega arith;
-}
+pub returns-clause-place : goal.returns-clause-place
+returns-clause-place g c =
+    let is : g.row.T.Denot → Bool = λ x. g.T.Key.PartialEq.eq (g.T.Keyed.keyed x) c.args.key.now in
+    c.unwrap_or.ensures ∙ spot_searched is c.args.records.now c.position.result
+    (position_from_yields_List is _ _ _ c.position.ensures.ran (YieldsList-from_slice c.args.records.now (cc)) (λ x b q k. search (rules, tests)))

@@ -1,4 +1,5 @@
-use Rattle.std.proofs.Common.{take, refl, ap, ◌∙◌, rules}
+use Rattle.std.proofs.Common.{◌≡◌, refl, ap, ◌∙◌, rules}
+use Rattle.register.specs.Lists.{changed}
 use Rattle.machine.specs.State.{is_access, with_accesses}
 use Rattle.machine.specs.Scenes.{after_duty}
 use Rattle.tables.specs.Tables.{scene_of}
@@ -8,19 +9,18 @@ use Rattle.tables.proofs.table.Tables.duty.Goals as goal
 
 pub invariant_of-self-clause-kept : goal.invariant_of-self-clause-kept
 invariant_of-self-clause-kept c =
-    let xs = take c.args.self.now.access_count c.args.self.now.accesses in
     kept_at _ _ _ _ _ refl
-    (c.replace.ensures.register ∙ access_replaced (after_duty c.args.self.now.room.clock) xs c.args.serial c.in-Ok.access _ c.in-Ok.ensures.found refl refl)
-    (kept_changed (is_access c.args.serial) (after_duty c.args.self.now.room.clock) (take c.args.self.now.lot_count c.args.self.now.lots) xs c.args.self.now.next_serial
+    (c.replace.ensures.after
+    ∙ access_replaced (after_duty c.args.self.now.room.clock) c.args.self.now.accesses c.args.serial c.in_ok-access.access _ c.in_ok-access.ensures.found refl refl)
+    (kept_changed (is_access c.args.serial) (after_duty c.args.self.now.room.clock) c.args.self.now.lots c.args.self.now.accesses c.args.self.now.next_serial
     (λ _. refl) (λ _. refl) c.args.self.now.kept)
 
-pub returns-in-Ok : goal.returns-in-Ok
-returns-in-Ok c =
+pub returns : goal.returns
+returns c =
     record {
       returned = search rules;
       scene = ap (with_accesses (scene_of c.args.self.now))
-          (c.replace.ensures.register
-          ∙ access_replaced (after_duty c.args.self.now.room.clock) (take c.args.self.now.access_count c.args.self.now.accesses) c.args.serial
-          c.in-Ok.access _ c.in-Ok.ensures.found refl refl);
+          (c.replace.ensures.after
+          ∙ access_replaced (after_duty c.args.self.now.room.clock) c.args.self.now.accesses c.args.serial c.in_ok-access.access _ c.in_ok-access.ensures.found refl refl);
       serial = search rules;
     }

@@ -1,4 +1,4 @@
-use Rattle.std.proofs.Common.{take, sym, refl, ap, ◌∙◌, rules}
+use Rattle.std.proofs.Common.{sym, refl, ap, ◌∙◌, rules}
 use Rattle.machine.specs.State.{is_access, with_accesses}
 use Rattle.machine.specs.Scenes.{after_use}
 use Rattle.tables.specs.Tables.{scene_of}
@@ -8,11 +8,9 @@ use Rattle.tables.proofs.table.Tables.use_units.Goals as goal
 
 pub invariant_of-self-clause-kept : goal.invariant_of-self-clause-kept
 invariant_of-self-clause-kept c =
-    let xs = take c.args.self.now.access_count c.args.self.now.accesses in
     kept_at _ _ _ _ _ refl
-    (c.replace.ensures.register
-    ∙ use_replaced xs c.args.serial c.args.units c.args.self.now.room.clock c.from.result c.in-Some.access (sym c.access.ensures ∙ c.in-Some.is) c.from.ensures)
-    (kept_changed (is_access c.args.serial) (after_use c.args.units c.args.self.now.room.clock) (take c.args.self.now.lot_count c.args.self.now.lots) xs
+    (c.replace.ensures.after ∙ use_replaced c.args.self.now.accesses c.args.serial c.args.units c.args.self.now.room.clock c.from.result c.in_ok-access.access (search rules) c.from.ensures)
+    (kept_changed (is_access c.args.serial) (after_use c.args.units c.args.self.now.room.clock) c.args.self.now.lots c.args.self.now.accesses
     c.args.self.now.next_serial (λ _. refl) (λ _. refl) c.args.self.now.kept)
 
 pub returns : goal.returns
@@ -20,8 +18,7 @@ returns c =
     record {
       returned = search rules;
       scene = ap (with_accesses (scene_of c.args.self.now))
-          (c.replace.ensures.register
-          ∙ use_replaced (take c.args.self.now.access_count c.args.self.now.accesses) c.args.serial c.args.units c.args.self.now.room.clock c.from.result
-          c.in-Some.access (sym c.access.ensures ∙ c.in-Some.is) c.from.ensures);
-      serial = search rules;
+          (c.replace.ensures.after
+          ∙ use_replaced c.args.self.now.accesses c.args.serial c.args.units c.args.self.now.room.clock c.from.result c.in_ok-access.access (search rules) c.from.ensures);
+      serial = refl;
     }

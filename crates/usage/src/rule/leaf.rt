@@ -35,11 +35,10 @@ impl<T: Test + Drop> Leaf<T> {
     pub fn new(number: u32, test: T) -> Result<Leaf<T>, Refusal>
         ensures { result ≡ (if rule_number_fits number then Ok (record { number = number; test = test }) else Err OutOfRange) }
     {
-        let number = u8::try_from(number).map_err(|_| Refusal::OutOfRange)?;
-        if number == 0 {
-            return Err(Refusal::OutOfRange);
+        match u8::try_from(number) {
+            Ok(number @ 1..) => Ok(Leaf { number, test }),
+            _ => Err(Refusal::OutOfRange),
         }
-        Ok(Leaf { number, test })
     }
 }
 
@@ -137,7 +136,7 @@ impl Room {
     pub fn new(lowest: i64, highest: i64) -> Result<Room, Refusal>
         ensures { result ≡ (if temperature_fits lowest && temperature_fits highest then Ok (record { lowest = lowest; highest = highest }) else Err OutOfRange) }
     {
-        if !(-400..=600).contains(&lowest) || !(-400..=600).contains(&highest) {
+        if !temperature_fits(lowest) || !temperature_fits(highest) {
             return Err(Refusal::OutOfRange);
         }
         Ok(Room { lowest, highest })
@@ -184,4 +183,11 @@ impl Test for Duty {
     fn passes(&self, s: &Situation) -> bool {
         s.room.clock.saturating_sub(s.access.last_duty) <= self.interval
     }
+}
+
+// Whether a room can have a temperature: -400 to 600.
+fn temperature_fits(temperature: i64) -> bool
+    ensures { result ≡ temperature_fits temperature }
+{
+    (-400..=600).contains(&temperature)
 }

@@ -93,11 +93,10 @@ pub met_nowhere : (role other : ℕ) → (role ≡ other → ⊥) → other ≡ 
 met_nowhere role other apart root =
     let other_is : eqb role other ≡ false = grind (arith, nat_tests) in
     let root_is : eqb other 0 ≡ true = grind (arith, nat_tests) in
-    sym (above_step role other ∙ at_root (eqb role other) (eqb other 0) (at_or_above role (parent other)) root_is ∙ other_is)
+    sym (rw (above_step role other, other_is, root_is))
 
 pub met_higher : (role other : ℕ) → (role ≡ other → ⊥) → (other ≡ 0 → ⊥) → at_or_above role (parent other) ≡ at_or_above role other
 met_higher role other apart child =
     let other_is : eqb role other ≡ false = grind (arith, nat_tests) in
     let root_is : eqb other 0 ≡ false = grind (arith, nat_tests) in
-    sym (above_step role other ∙ ap (λ b. b || (not (eqb other 0) && at_or_above role (parent other))) other_is
-    ∙ ap (λ b. not b && at_or_above role (parent other)) root_is)
+    sym (rw (above_step role other, other_is, root_is))

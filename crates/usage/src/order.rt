@@ -1,10 +1,11 @@
 //! Orders of revocation: which of two accesses goes before the other.
 ghost use Rattle.std.specs.Prelude.{◌≡◌, Bool, true, false, not, ◌≢◌};
 ghost use Rattle.records.specs.declared.Access.{Access};
-ghost use Rattle.usage.specs.Orders.{smaller_first, earliest_start, longest_idle, longest_use};
+ghost use Rattle.usage.specs.Orders.{earliest_start, longest_idle, longest_use};
 ghost use Rattle.std.proofs.Common.{rules};
 
 use records::Access;
+use std::cmp::Reverse;
 
 /// Of two accesses, whether the first goes before the second.
 pub trait Order {
@@ -43,7 +44,7 @@ impl Order for EarliestStart {
     ghost transitive = { Prim.search rules };
 
     fn goes_before(&self, a: &Access, b: &Access) -> bool {
-        smaller_first(a.start, b.start, a.serial, b.serial)
+        (a.start, a.serial) < (b.start, b.serial)
     }
 }
 
@@ -57,7 +58,7 @@ impl Order for LongestIdle {
     ghost transitive = { Prim.search rules };
 
     fn goes_before(&self, a: &Access, b: &Access) -> bool {
-        smaller_first(a.last_use, b.last_use, a.serial, b.serial)
+        (a.last_use, a.serial) < (b.last_use, b.serial)
     }
 }
 
@@ -71,13 +72,6 @@ impl Order for LongestUse {
     ghost transitive = { Prim.search rules };
 
     fn goes_before(&self, a: &Access, b: &Access) -> bool {
-        smaller_first(u32::from(b.used), u32::from(a.used), a.serial, b.serial)
+        (Reverse(a.used), a.serial) < (Reverse(b.used), b.serial)
     }
-}
-
-// The smaller number first, and of equals the smaller serial.
-fn smaller_first(x: u32, y: u32, serial: u32, other: u32) -> bool
-    ensures { result ≡ smaller_first x y serial other }
-{
-    if x == y { serial < other } else { x < y }
 }

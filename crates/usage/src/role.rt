@@ -9,7 +9,7 @@ const PARENTS: [u8; 16] = [0, 0, 0, 1, 1, 2, 2, 3, 3, 4, 5, 5, 6, 7, 9, 12];
 fn parent_of(role: u8) -> u8
     ensures { result ≡ parent role }
 {
-    if role < 16 { PARENTS[role as usize] } else { 0 }
+    PARENTS.get(usize::from(role)).copied().unwrap_or(0)
 }
 
 /// Whether a role is at or above another: equal to it, or at or above its parent.

@@ -29,20 +29,16 @@ impl<A: Rule, B: Rule> Rule for Both<A, B> {
     ghost staying = { λ rule s. both_answer (A.Rule.staying rule.first s) (B.Rule.staying rule.second s) };
 
     fn ask_opening(&self, s: &Situation) -> u8 {
-        let answer = self.first.ask_opening(s);
-        if answer == 0 {
-            self.second.ask_opening(s)
-        } else {
-            answer
+        match self.first.ask_opening(s) {
+            0 => self.second.ask_opening(s),
+            failure => failure,
         }
     }
 
     fn ask_staying(&self, s: &Situation) -> u8 {
-        let answer = self.first.ask_staying(s);
-        if answer == 0 {
-            self.second.ask_staying(s)
-        } else {
-            answer
+        match self.first.ask_staying(s) {
+            0 => self.second.ask_staying(s),
+            failure => failure,
         }
     }
 }

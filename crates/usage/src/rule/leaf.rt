@@ -1,245 +1,193 @@
-//! The rules that read a situation themselves.
-ghost use Rattle.std.specs.Prelude.{◌≡◌, ◌&&◌, if◌then◌else◌, Ok, Err, int_le};
+//! The rules that read a situation themselves: a test, under a number.
+ghost use Rattle.std.specs.Prelude.{◌≡◌, ◌&&◌, if◌then◌else◌, Bool, true, false, Ok, Err};
 ghost use Rattle.records.specs.declared.Refusal.TheVariants.{OutOfRange};
+ghost use Rattle.records.specs.declared.Situation.{Situation};
 ghost use Rattle.records.specs.Ranges.{temperature_fits};
-ghost use Rattle.usage.specs.Rules.{rule_number_fits, interval_fits, level_answer, role_answer, stop_answer, heads_answer, room_answer, duty_answer};
+ghost use Rattle.usage.specs.Rules.{rule_number_fits, interval_fits, answer, level_passes, role_passes, stop_passes, heads_passes, room_passes, duty_passes};
 
 use crate::role::at_or_above;
 use crate::rule::Rule;
 use records::{Phase, Refusal, Situation};
 
-/// Passes where the badge's level is at least the lot's.
-#[derive(Clone, Copy)]
-pub struct Level {
-    number: u8,
+/// A test of a situation.
+pub trait Test {
+    ghost passes: { Self → Situation → Bool };
+
+    ghost AT_OPENING: { Bool };
+
+    /// Whether the test is made at opening too, or of an open access alone.
+    const AT_OPENING: bool;
+
+    /// Whether a situation passes.
+    fn passes(&self, s: &Situation) -> bool
+        ensures { result ≡ passes self.now s.now };
 }
 
-impl Level {
-    /// The rule under a number from 1 to 255.
-    pub fn new(number: u32) -> Result<Level, Refusal>
-        ensures { result ≡ (if rule_number_fits number then Ok (record { number = number }) else Err OutOfRange) }
+/// A test as a rule: answers 0 where the test passes or is not made, else the rule's number.
+#[derive(Clone, Copy, Drop)]
+pub struct Leaf<T> {
+    number: u8,
+    test: T,
+}
+
+impl<T: Test + Drop> Leaf<T> {
+    /// The rule of a test under a number from 1 to 255.
+    pub fn new(number: u32, test: T) -> Result<Leaf<T>, Refusal>
+        ensures { result ≡ (if rule_number_fits number then Ok (record { number = number; test = test }) else Err OutOfRange) }
     {
-        let number = rule_number(number)?;
-        Ok(Level { number })
+        match u8::try_from(number) {
+            Ok(number @ 1..) => Ok(Leaf { number, test }),
+            _ => Err(Refusal::OutOfRange),
+        }
     }
 }
 
-impl Rule for Level {
-    ghost opening = { λ rule s. level_answer rule.number s };
+impl<T: Test> Rule for Leaf<T> {
+    ghost opening = { λ rule s. if T.AT_OPENING then answer (T.passes rule.test s) rule.number else 0 };
 
-    ghost staying = { λ rule s. level_answer rule.number s };
+    ghost staying = { λ rule s. answer (T.passes rule.test s) rule.number };
 
     fn ask_opening(&self, s: &Situation) -> u8 {
-        answer(s.badge.level >= s.lot.level, self.number)
+        if T::AT_OPENING {
+            self.ask_staying(s)
+        } else {
+            0
+        }
     }
 
     fn ask_staying(&self, s: &Situation) -> u8 {
-        self.ask_opening(s)
+        if self.test.passes(s) { 0 } else { self.number }
+    }
+}
+
+/// Passes where the badge's level is at least the lot's.
+#[derive(Clone, Copy)]
+pub struct Level;
+
+impl Test for Level {
+    ghost passes = { λ _ s. level_passes s };
+
+    ghost AT_OPENING = { true };
+
+    const AT_OPENING: bool = true;
+
+    fn passes(&self, s: &Situation) -> bool {
+        s.badge.level >= s.lot.level
     }
 }
 
 /// Passes where the badge's role is at or above the wanted role.
 #[derive(Clone, Copy)]
-pub struct Role {
-    number: u8,
-}
+pub struct Role;
 
-impl Role {
-    /// The rule under a number from 1 to 255.
-    pub fn new(number: u32) -> Result<Role, Refusal>
-        ensures { result ≡ (if rule_number_fits number then Ok (record { number = number }) else Err OutOfRange) }
-    {
-        let number = rule_number(number)?;
-        Ok(Role { number })
-    }
-}
+impl Test for Role {
+    ghost passes = { λ _ s. role_passes s };
 
-impl Rule for Role {
-    ghost opening = { λ rule s. role_answer rule.number s };
+    ghost AT_OPENING = { true };
 
-    ghost staying = { λ rule s. role_answer rule.number s };
+    const AT_OPENING: bool = true;
 
-    fn ask_opening(&self, s: &Situation) -> u8 {
-        answer(at_or_above(s.badge.role, s.lot.role), self.number)
-    }
-
-    fn ask_staying(&self, s: &Situation) -> u8 {
-        self.ask_opening(s)
+    fn passes(&self, s: &Situation) -> bool {
+        at_or_above(s.badge.role, s.lot.role)
     }
 }
 
 /// Passes where the lot has no stop mark.
 #[derive(Clone, Copy)]
-pub struct Stop {
-    number: u8,
-}
+pub struct Stop;
 
-impl Stop {
-    /// The rule under a number from 1 to 255.
-    pub fn new(number: u32) -> Result<Stop, Refusal>
-        ensures { result ≡ (if rule_number_fits number then Ok (record { number = number }) else Err OutOfRange) }
-    {
-        let number = rule_number(number)?;
-        Ok(Stop { number })
+impl Test for Stop {
+    ghost passes = { λ _ s. stop_passes s };
+
+    ghost AT_OPENING = { true };
+
+    const AT_OPENING: bool = true;
+
+    fn passes(&self, s: &Situation) -> bool {
+        !s.lot.stop
     }
 }
 
-impl Rule for Stop {
-    ghost opening = { λ rule s. stop_answer rule.number s };
-
-    ghost staying = { λ rule s. stop_answer rule.number s };
-
-    fn ask_opening(&self, s: &Situation) -> u8 {
-        answer(!s.lot.stop, self.number)
-    }
-
-    fn ask_staying(&self, s: &Situation) -> u8 {
-        self.ask_opening(s)
-    }
-}
-
-/// Opening passes; staying passes where the lot's heads are at most its head limit.
+/// Passes where the lot's heads are at most its head limit; not made at opening.
 #[derive(Clone, Copy)]
-pub struct Heads {
-    number: u8,
-}
+pub struct Heads;
 
-impl Heads {
-    /// The rule under a number from 1 to 255.
-    pub fn new(number: u32) -> Result<Heads, Refusal>
-        ensures { result ≡ (if rule_number_fits number then Ok (record { number = number }) else Err OutOfRange) }
-    {
-        let number = rule_number(number)?;
-        Ok(Heads { number })
-    }
-}
+impl Test for Heads {
+    ghost passes = { λ _ s. heads_passes s };
 
-impl Rule for Heads {
-    ghost opening = { λ _ _. 0 };
+    ghost AT_OPENING = { false };
 
-    ghost staying = { λ rule s. heads_answer rule.number s };
+    const AT_OPENING: bool = false;
 
-    fn ask_opening(&self, _s: &Situation) -> u8 {
-        0
-    }
-
-    fn ask_staying(&self, s: &Situation) -> u8 {
-        answer(s.lot.heads <= s.lot.limit, self.number)
+    fn passes(&self, s: &Situation) -> bool {
+        s.lot.heads <= s.lot.limit
     }
 }
 
 /// Passes where the room is at work and its temperature is within two ends, both included.
 #[derive(Clone, Copy)]
 pub struct Room {
-    number: u8,
     lowest: i64,
     highest: i64,
 }
 
 impl Room {
-    /// The rule under a number from 1 to 255, with a lowest and a highest temperature from -400 to 600.
-    pub fn new(number: u32, lowest: i64, highest: i64) -> Result<Room, Refusal>
-        ensures { result ≡ (if rule_number_fits number && (temperature_fits lowest && temperature_fits highest) then Ok (record { number = number; lowest = lowest; highest = highest }) else Err OutOfRange) }
+    /// The test with a lowest and a highest temperature from -400 to 600.
+    pub fn new(lowest: i64, highest: i64) -> Result<Room, Refusal>
+        ensures { result ≡ (if temperature_fits lowest && temperature_fits highest then Ok (record { lowest = lowest; highest = highest }) else Err OutOfRange) }
     {
-        let number = rule_number(number)?;
-        if !temperature_fits(lowest) {
+        if !temperature_fits(lowest) || !temperature_fits(highest) {
             return Err(Refusal::OutOfRange);
         }
-        if !temperature_fits(highest) {
-            return Err(Refusal::OutOfRange);
-        }
-        Ok(Room {
-            number,
-            lowest,
-            highest,
-        })
+        Ok(Room { lowest, highest })
     }
 }
 
-impl Rule for Room {
-    ghost opening = { λ rule s. room_answer rule.lowest rule.highest rule.number s };
+impl Test for Room {
+    ghost passes = { λ test s. room_passes test.lowest test.highest s };
 
-    ghost staying = { λ rule s. room_answer rule.lowest rule.highest rule.number s };
+    ghost AT_OPENING = { true };
 
-    fn ask_opening(&self, s: &Situation) -> u8 {
-        match s.room.phase {
-            Phase::Work => answer(
-                within(s.room.temperature, self.lowest, self.highest),
-                self.number,
-            ),
-            Phase::Washdown => self.number,
-        }
-    }
+    const AT_OPENING: bool = true;
 
-    fn ask_staying(&self, s: &Situation) -> u8 {
-        self.ask_opening(s)
+    fn passes(&self, s: &Situation) -> bool {
+        s.room.phase == Phase::Work && (self.lowest..=self.highest).contains(&s.room.temperature)
     }
 }
 
-/// Opening passes; staying passes where the minutes since the last duty are at most an interval.
+/// Passes where the minutes since the last duty are at most an interval; not made at opening.
 #[derive(Clone, Copy)]
 pub struct Duty {
-    number: u8,
     interval: u32,
 }
 
 impl Duty {
-    /// The rule under a number from 1 to 255, with an interval from 0 to 1,440 minutes.
-    pub fn new(number: u32, interval: u32) -> Result<Duty, Refusal>
-        ensures { result ≡ (if rule_number_fits number && interval_fits interval then Ok (record { number = number; interval = interval }) else Err OutOfRange) }
+    /// The test with an interval of at most 1,440 minutes.
+    pub fn new(interval: u32) -> Result<Duty, Refusal>
+        ensures { result ≡ (if interval_fits interval then Ok (record { interval = interval }) else Err OutOfRange) }
     {
-        let number = rule_number(number)?;
         if interval > 1440 {
             return Err(Refusal::OutOfRange);
         }
-        Ok(Duty { number, interval })
+        Ok(Duty { interval })
     }
 }
 
-impl Rule for Duty {
-    ghost opening = { λ _ _. 0 };
+impl Test for Duty {
+    ghost passes = { λ test s. duty_passes test.interval s };
 
-    ghost staying = { λ rule s. duty_answer rule.interval rule.number s };
+    ghost AT_OPENING = { false };
 
-    fn ask_opening(&self, _s: &Situation) -> u8 {
-        0
+    const AT_OPENING: bool = false;
+
+    fn passes(&self, s: &Situation) -> bool {
+        s.room.clock.saturating_sub(s.access.last_duty) <= self.interval
     }
-
-    fn ask_staying(&self, s: &Situation) -> u8 {
-        answer(
-            s.room.clock.saturating_sub(s.access.last_duty) <= self.interval,
-            self.number,
-        )
-    }
-}
-
-// 0 where a rule passes, else its number.
-fn answer(passes: bool, number: u8) -> u8
-    ensures { result ≡ (if passes then 0 else number) }
-{
-    if passes { 0 } else { number }
-}
-
-// A rule's number, from 1 to 255.
-fn rule_number(number: u32) -> Result<u8, Refusal>
-    ensures { result ≡ (if rule_number_fits number then Ok number else Err OutOfRange) }
-{
-    if number == 0 || number > 255 {
-        return Err(Refusal::OutOfRange);
-    }
-    Ok(number as u8)
-}
-
-// Whether a temperature lies within two ends, both included.
-fn within(temperature: i64, lowest: i64, highest: i64) -> bool
-    ensures { result ≡ int_le lowest temperature && int_le temperature highest }
-{
-    lowest <= temperature && temperature <= highest
 }
 
 // Whether a room can have a temperature: -400 to 600.
 fn temperature_fits(temperature: i64) -> bool
     ensures { result ≡ temperature_fits temperature }
 {
-    within(temperature, -400, 600)
+    (-400..=600).contains(&temperature)
 }

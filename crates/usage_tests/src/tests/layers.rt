@@ -3,12 +3,12 @@ use super::{answers, situation};
 use records::Right;
 use std::test::Fail;
 use usage::rule::layer::{Both, For};
-use usage::rule::leaf::{Heads, Level};
+use usage::rule::leaf::{Heads, Leaf, Level};
 
 // A level of 3 is wanted. The second part, on heads, opens always, so that the two questions differ.
 #[test]
 fn of_both_the_first_failure_answers(rt: HostRuntime) -> Result<(), Fail> {
-    let rule = Both::new(Level::new(5)?, Heads::new(9)?);
+    let rule = Both::new(Leaf::new(5, Level)?, Leaf::new(9, Heads)?);
     for (level, heads, opening, staying) in [
         (3, 10, 0, 0),
         (3, 11, 0, 9),
@@ -25,7 +25,7 @@ fn of_both_the_first_failure_answers(rt: HostRuntime) -> Result<(), Fail> {
 
 #[test]
 fn a_part_for_one_right_is_asked_under_it_alone(rt: HostRuntime) -> Result<(), Fail> {
-    let rule = For::new(3, Both::new(Heads::new(9)?, Level::new(5)?))?;
+    let rule = For::new(3, Both::new(Leaf::new(9, Heads)?, Leaf::new(5, Level)?))?;
     for (right, opening, staying) in [
         (Right::Read, 0, 0),
         (Right::Weigh, 0, 0),

@@ -1,21 +1,29 @@
 //! The numbers of rights, phases and kinds, and the first number past each.
-use records::{Kind, Phase, Right};
-use usage::number::{kind_number, phase_number, phase_of, right_number, right_of};
+use records::{Kind, Phase, Refusal, Right};
 
 #[test]
 fn rights_phases_and_kinds_have_their_numbers(rt: HostRuntime) {
-    let rights = [Right::Read, Right::Weigh, Right::Label, Right::Release];
-    let phases = [Phase::Work, Phase::Washdown];
-    let kinds = [Kind::Opened, Kind::Denied, Kind::Ended, Kind::Revoked];
-    for number in 0..4 {
-        assert_eq!(rt; right_of(number as u32), Some(rights[number]));
-        assert_eq!(rt; right_number(rights[number]) as usize, number);
-        assert_eq!(rt; kind_number(kinds[number]) as usize, number + 1);
+    for (number, right) in [
+        (0, Right::Read),
+        (1, Right::Weigh),
+        (2, Right::Label),
+        (3, Right::Release),
+    ] {
+        assert_eq!(rt; u8::from(right), number);
+        assert_eq!(rt; Right::try_from(u32::from(number)), Ok(right));
     }
-    for number in 0..2 {
-        assert_eq!(rt; phase_of(number as u32), Some(phases[number]));
-        assert_eq!(rt; phase_number(phases[number]) as usize, number);
+    for (number, phase) in [(0, Phase::Work), (1, Phase::Washdown)] {
+        assert_eq!(rt; u8::from(phase), number);
+        assert_eq!(rt; Phase::try_from(u32::from(number)), Ok(phase));
     }
-    assert_eq!(rt; right_of(4), None);
-    assert_eq!(rt; phase_of(2), None);
+    for (number, kind) in [
+        (1, Kind::Opened),
+        (2, Kind::Denied),
+        (3, Kind::Ended),
+        (4, Kind::Revoked),
+    ] {
+        assert_eq!(rt; u8::from(kind), number);
+    }
+    assert_eq!(rt; Right::try_from(4), Err(Refusal::OutOfRange));
+    assert_eq!(rt; Phase::try_from(2), Err(Refusal::OutOfRange));
 }

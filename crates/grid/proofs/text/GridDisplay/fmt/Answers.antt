@@ -17,7 +17,7 @@ loop-row-preserved g c = λ p.
 pub returns-clause-writes : goal.returns-clause-writes
 returns-clause-writes g c = λ p ok.
     let middle = c.loop-row.invariant p in
-    let end = c.write-2.ensures.writes middle.plain ok in
+    let end = c.writeln.ensures.writes middle.plain ok in
     let rows = c.args.self.now.rows in
     let long : length rows ≡ 16 = search rules in
     let whole : take c.loop-row.row-index rows ≡ rows = take_all c.loop-row.row-index rows (omega arith) in

@@ -17,7 +17,7 @@ pub returns-clause-writes : goal.returns-clause-writes
 returns-clause-writes g c = λ p ok.
     let first = c.in_ok-write.ensures.writes p (refl {a = true}) in
     let middle = c.loop-answer.invariant first.plain in
-    let end = c.write-2.ensures.writes middle.plain ok in
+    let end = c.writeln.ensures.writes middle.plain ok in
     let row = c.args.self.now.0 in
     let long : length row ≡ 16 = search rules in
     let whole : take c.loop-answer.answer-index (mid_of 1 15 row) ≡ drop 1 row =

@@ -1,10 +1,10 @@
 //! The answers: at a level and a role, along a level, and over all levels.
-ghost use Rattle.std.specs.Prelude.{◌≡◌, ◌≤◌};
+ghost use Rattle.std.specs.Prelude.{◌≡◌, ◌<◌};
 ghost use Rattle.records.specs.Parts.{price_of};
-ghost use Rattle.grid.specs.Grid.{badge_of, wanted, answer_at, row_of, rows_of, passing_in, passing_of};
+ghost use Rattle.grid.specs.Grid.{badge_of, wanted, answer_at, row_of, rows_of, passing_of};
 
 use records::{Access, Badge, Lot, Phase, Right, Room, Situation};
-use usage::number::right_number;
+use std::array;
 use usage::rule::Rule;
 
 /// How many levels there are, and how many roles.
@@ -23,8 +23,17 @@ impl Grid {
         ensures rows { result.rows ≡ rows_of (R.Rule.opening rule.now) lot.now right }
         ensures passing { result.passing ≡ passing_of (rows_of (R.Rule.opening rule.now) lot.now right) }
     {
-        let rows = answers(rule, lot, right);
-        let passing = passing(&rows);
+        let rows = array::from_fn(
+            |level| -> [u8; SIDE]
+                requires { level < 16 }
+                ensures { result ≡ row_of (R.Rule.opening rule.entry.now) lot.entry.now right level }
+            { array::from_fn(|role| answer_at(rule, lot, right, level as u8, role as u8)) },
+        );
+        let passing = rows
+            .as_flattened()
+            .iter()
+            .filter(|answer| **answer == 0)
+            .count() as u16;
         Grid { rows, passing }
     }
 }
@@ -81,50 +90,5 @@ fn wanted(lot: &Lot, right: Right) -> Access
 fn price(lot: &Lot, right: Right) -> u16
     ensures { result ≡ price_of lot.now right }
 {
-    lot.prices[usize::from(right_number(right))]
-}
-
-// The answers along a level, by role.
-fn row<R: Rule>(rule: &R, lot: &Lot, right: Right, level: u8) -> [u8; SIDE]
-    ensures { result ≡ row_of (R.Rule.opening rule.now) lot.now right level }
-{
-    let mut row = [0; SIDE];
-    for role in 0..16u8 {
-        row[usize::from(role)] = answer_at(rule, lot, right, level, role);
-    }
-    row
-}
-
-// The rows, by level.
-fn answers<R: Rule>(rule: &R, lot: &Lot, right: Right) -> [[u8; SIDE]; SIDE]
-    ensures { result ≡ rows_of (R.Rule.opening rule.now) lot.now right }
-{
-    let mut rows = [[0; SIDE]; SIDE];
-    for level in 0..16u8 {
-        rows[usize::from(level)] = row(rule, lot, right, level);
-    }
-    rows
-}
-
-// How many answers of a row pass.
-fn passing_in(row: &[u8; SIDE]) -> u16
-    ensures value { result ≡ passing_in row.now }
-    ensures bound { result ≤ 16 }
-{
-    let mut passing = 0;
-    for answer in row {
-        passing += u16::from(*answer == 0);
-    }
-    passing
-}
-
-// How many answers of all rows pass.
-fn passing(rows: &[[u8; SIDE]; SIDE]) -> u16
-    ensures { result ≡ passing_of rows.now }
-{
-    let mut passing = 0;
-    for row in rows {
-        passing += passing_in(row);
-    }
-    passing
+    lot.prices[usize::from(u8::from(right))]
 }

@@ -10,11 +10,9 @@ impl fmt::Display for Grid {
 
     fn fmt<W: fmt::Write>(&self, f: &mut fmt::Formatter<W>) -> fmt::Result {
         for row in &self.rows {
-            let line = Row(*row);
-            write!(f, "{line}")?;
+            write!(f, "{}", Row(*row))?;
         }
-        let passing = self.passing;
-        write!(f, "{passing} of 256 pass\n")
+        writeln!(f, "{} of 256 pass", self.passing)
     }
 }
 
@@ -26,14 +24,11 @@ impl fmt::Display for Row {
     ghost output = { λ row. Some (row_text row.0) };
 
     fn fmt<W: fmt::Write>(&self, f: &mut fmt::Formatter<W>) -> fmt::Result {
-        let first = Cell(self.0[0]);
-        write!(f, "{first}")?;
-        let rest = &self.0[1..];
-        for answer in rest {
-            let cell = Cell(*answer);
-            write!(f, " {cell}")?;
+        write!(f, "{}", Cell(self.0[0]))?;
+        for answer in &self.0[1..] {
+            write!(f, " {}", Cell(*answer))?;
         }
-        write!(f, "\n")
+        writeln!(f)
     }
 }
 
@@ -45,11 +40,9 @@ impl fmt::Display for Cell {
     ghost output = { λ cell. Some (cell_text cell.0) };
 
     fn fmt<W: fmt::Write>(&self, f: &mut fmt::Formatter<W>) -> fmt::Result {
-        let answer = self.0;
-        if answer == 0 {
-            write!(f, ".")
-        } else {
-            write!(f, "{answer}")
+        match self.0 {
+            0 => write!(f, "."),
+            answer => write!(f, "{answer}"),
         }
     }
 }

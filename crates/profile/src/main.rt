@@ -2,21 +2,21 @@
 //! column for each badge role, `.` for pass or the number of the rule that fails (1: the level, 2: the role).
 #![tactic(auto)]
 
-use anyhow::anyhow;
+use anyhow::bail;
 use grid::profile::text_for;
 use std::env;
 
 fn main(rt: HostRuntime) -> anyhow::Result<()> {
     // the first word is the program's own name
     let words: Vec<String> = env::args(&rt)?.skip(1).collect(rt.alloc())?;
-    match text_for(rt.alloc(), &words) {
-        Ok(text) => {
-            print!(rt; "{text}")?;
-            Ok(())
-        }
+    let text = match text_for(rt.alloc(), &words) {
+        Ok(text) => text,
+        // not by `?`: standard error gets two lines, the fault under the program's name and then what `main` returns
         Err(fault) => {
             eprintln!(rt; "profile: {fault}")?;
-            Err(anyhow!("no grid"))
+            bail!("no grid");
         }
-    }
+    };
+    print!(rt; "{text}")?;
+    Ok(())
 }

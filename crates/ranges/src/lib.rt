@@ -2,7 +2,7 @@
 #![tactic(auto)]
 
 ghost use Rattle.std.specs.Prelude.{◌≡◌};
-ghost use Rattle.records.specs.Ranges.{between, badge_number_fits, code_fits, serial_fits, attribute_fits, units_fit, prices_fit, limit_fits, price_fits, clock_fits, temperature_fits};
+ghost use Rattle.records.specs.Ranges.{badge_number_fits, code_fits, serial_fits, attribute_fits, units_fit, prices_fit, limit_fits, clock_fits, temperature_fits};
 
 /// A badge's number: 1 to 4,294,967,295.
 pub fn badge_number_fits(number: u32) -> bool
@@ -15,19 +15,14 @@ pub fn badge_number_fits(number: u32) -> bool
 pub fn code_fits(code: &[u8; 8]) -> bool
     ensures { result ≡ code_fits code.now }
 {
-    for byte in code {
-        if !byte_fits(*byte) {
-            return false;
-        }
-    }
-    true
+    code.iter().all(|byte| (0x21..=0x7E).contains(byte))
 }
 
 /// A serial: 1 to 1,000,000,000.
 pub fn serial_fits(serial: u32) -> bool
     ensures { result ≡ serial_fits serial }
 {
-    serial >= 1 && serial <= 1_000_000_000
+    (1..=1_000_000_000).contains(&serial)
 }
 
 /// A level, a role or an account: 0 to 15.
@@ -48,12 +43,7 @@ pub fn units_fit(units: u32) -> bool
 pub fn prices_fit(prices: &[u32; 4]) -> bool
     ensures { result ≡ prices_fit prices.now }
 {
-    for price in prices {
-        if !price_fits(*price) {
-            return false;
-        }
-    }
-    true
+    prices.iter().all(|&price| price <= 1_000)
 }
 
 /// A head limit: 0 to 64.
@@ -74,19 +64,5 @@ pub fn clock_fits(minutes: u32) -> bool
 pub fn temperature_fits(temperature: i64) -> bool
     ensures { result ≡ temperature_fits temperature }
 {
-    temperature >= -400 && temperature <= 600
-}
-
-// A byte of a code.
-fn byte_fits(byte: u8) -> bool
-    ensures { result ≡ between 0x21 0x7E byte }
-{
-    byte >= 0x21 && byte <= 0x7E
-}
-
-/// A price: 0 to 1,000.
-pub fn price_fits(price: u32) -> bool
-    ensures { result ≡ price_fits price }
-{
-    price <= 1_000
+    (-400..=600).contains(&temperature)
 }

@@ -1,54 +1,61 @@
--- Codes compared: the laws of their order and of their sameness. Assumes nothing.
-use Rattle.std.specs.Prelude.{◌≡◌, ℕ, ◌+◌, ◌<◌, true, false, cond, List, [], ◌∷◌, length, drop, ◌==◌, nat_lt, slice_index, refl}
-use Rattle.std.proofs.Common.{arith}
+-- Codes compared: what std's comparisons say of them, and the laws of their order and of their sameness. Assumes nothing.
+use Rattle.std.specs.Prelude.{◌≡◌, ℕ, ◌+◌, ◌<◌, true, false, cond, List, [], ◌∷◌, length, drop, ◌==◌, nat_eq, nat_lt, slice_index, refl}
+use Rattle.std.specs.declared.cmp.Ordering.{Ordering}
+use Rattle.std.specs.Ordering.{is_lt, is_eq, nat_cmp, ordering_reverse}
+use Rattle.std.specs.declared.cmp.Ordering.TheVariants.{Less, Equal, Greater}
+use Rattle.std.specs.Cmp.Lexicographic.{pointwise, slice_cmp, bytes_decides, texts_ties}
+use Rattle.std.proofs.Common.{sym, ap, ◌∙◌, arith}
+use Rattle.std.proofs.lemmas.Cmp.{tied_itself, nat_list_cmp_total, nat_list_eq_equiv}
 use Rattle.std.proofs.lemmas.List.{drop_more}
 use Rattle.std.proofs.lemmas.Bool.Decides.{nat_tests}
 use Rattle.register.specs.Codes.{same_code, code_below}
-use Rattle.register.specs.Tests.{by_test, not_both}
+
+-- `==` and `cmp` at codes
+pub same_codes_at : (c d : List ℕ) → pointwise nat_eq c d ≡ same_code c d
+same_codes_at [] [] = refl
+same_codes_at [] (y ∷ ys) = refl
+same_codes_at (x ∷ xs) [] = refl
+same_codes_at (x ∷ xs) (y ∷ ys) = let later : pointwise nat_eq xs ys ≡ same_code xs ys = same_codes_at xs ys in grind (arith, nat_tests)
+
+pub codes_below_at : (c d : List ℕ) → is_lt (slice_cmp nat_cmp c d) ≡ code_below c d
+codes_below_at [] [] = refl
+codes_below_at [] (y ∷ ys) = refl
+codes_below_at (x ∷ xs) [] = refl
+codes_below_at (x ∷ xs) (y ∷ ys) =
+    let later : is_lt (slice_cmp nat_cmp xs ys) ≡ code_below xs ys = codes_below_at xs ys in grind (arith, nat_tests)
 
 pub same_code_symmetric : (c d : List ℕ) → same_code c d ≡ same_code d c
-same_code_symmetric [] [] = refl
-same_code_symmetric [] (y ∷ ys) = refl
-same_code_symmetric (x ∷ xs) [] = refl
-same_code_symmetric (x ∷ xs) (y ∷ ys) = let h : same_code xs ys ≡ same_code ys xs = same_code_symmetric xs ys in grind (arith, nat_tests)
+same_code_symmetric c d = sym (same_codes_at c d) ∙ nat_list_eq_equiv.symm c d ∙ same_codes_at d c
 
 pub same_code_reflexive : (c : List ℕ) → same_code c c ≡ true
-same_code_reflexive [] = refl
-same_code_reflexive (x ∷ xs) = let h : same_code xs xs ≡ true = same_code_reflexive xs in grind (arith, nat_tests)
+same_code_reflexive c = sym (same_codes_at c c) ∙ nat_list_eq_equiv.refl c
 
 -- codes that test the same are the same
 pub same_code_equal : (c d : List ℕ) → same_code c d ≡ true → c ≡ d
-same_code_equal [] [] e = refl
-same_code_equal [] (y ∷ ys) e = not_both true refl (cc)
-same_code_equal (x ∷ xs) [] e = not_both true refl (cc)
-same_code_equal (x ∷ xs) (y ∷ ys) e =
-    by_test (x == y) (λ b. (x == y) ≡ b → cond b (same_code xs ys) false ≡ true → x ∷ xs ≡ y ∷ ys)
-    (λ _ h k. let heads : x ≡ y = grind (arith, nat_tests) in let tails : xs ≡ ys = same_code_equal xs ys k in cc)
-    (λ _ h k. not_both true refl (cc))
-    refl e
+same_code_equal c d e = (bytes_decides c d).0 (same_codes_at c d ∙ e)
 
 pub code_below_irreflexive : (c : List ℕ) → code_below c c ≡ false
-code_below_irreflexive [] = refl
-code_below_irreflexive (x ∷ xs) = let h : code_below xs xs ≡ false = code_below_irreflexive xs in grind (arith, nat_tests)
+code_below_irreflexive c = sym (codes_below_at c c) ∙ ap is_lt (tied_itself nat_list_cmp_total c)
+
+less : (o : Ordering) → is_lt o ≡ true → o ≡ Less
+less Less e = refl
+less Equal e = cc
+less Greater e = cc
 
 pub code_below_transitive : (c d e : List ℕ) → code_below c d ≡ true → code_below d e ≡ true → code_below c e ≡ true
-code_below_transitive [] [] e p q = q
-code_below_transitive [] (y ∷ ys) [] p q = q
-code_below_transitive [] (y ∷ ys) (z ∷ zs) p q = refl
-code_below_transitive (x ∷ xs) [] e p q = not_both false (cc) refl
-code_below_transitive (x ∷ xs) (y ∷ ys) [] p q = q
-code_below_transitive (x ∷ xs) (y ∷ ys) (z ∷ zs) p q =
-    let h : code_below xs ys ≡ true → code_below ys zs ≡ true → code_below xs zs ≡ true = code_below_transitive xs ys zs in
-    grind (arith, nat_tests)
+code_below_transitive c d e p q =
+    sym (codes_below_at c e) ∙ ap is_lt (nat_list_cmp_total.trans c d e (less _ (codes_below_at c d ∙ p)) (less _ (codes_below_at d e ∙ q)))
+
+greater : (o : Ordering) → is_lt o ≡ false → is_eq o ≡ false → is_lt (ordering_reverse o) ≡ true
+greater Less p q = sym p
+greater Equal p q = sym q
+greater Greater p q = refl
 
 -- of two codes that differ, one is below the other
 pub code_below_total : (c d : List ℕ) → code_below c d ≡ false → same_code c d ≡ false → code_below d c ≡ true
-code_below_total [] [] p q = not_both true refl (cc)
-code_below_total [] (y ∷ ys) p q = not_both true refl (cc)
-code_below_total (x ∷ xs) [] p q = refl
-code_below_total (x ∷ xs) (y ∷ ys) p q =
-    let h : code_below xs ys ≡ false → same_code xs ys ≡ false → code_below ys xs ≡ true = code_below_total xs ys in
-    grind (arith, nat_tests)
+code_below_total c d p q =
+    sym (codes_below_at d c) ∙ ap is_lt (nat_list_cmp_total.antisymm d c)
+    ∙ greater (slice_cmp nat_cmp c d) (codes_below_at c d ∙ p) (sym (texts_ties c d) ∙ same_codes_at c d ∙ q)
 
 -- what is left of two codes, one byte on
 pub same_code_more : (c d : List ℕ) (i : ℕ) → i < length c → i < length d →

@@ -111,7 +111,7 @@ fn enter<T: Copy>(records: &mut [T], count: usize, at: usize, new: T)
     requires { (at ≤ count) × (count < length records.old) }
     ensures { records.new ≡ insert (take count records.old) at new ++ drop (count + 1) records.old }
 {
-    records[at..count + 1].rotate_right(1);
+    records.copy_within(at..count, at + 1);
     records[at] = new;
 }
 
@@ -121,7 +121,8 @@ fn strike<T: Copy>(records: &mut [T], count: usize, at: usize) -> T
     ensures struck { result ≡ slice_index_or records.old at result }
     ensures after { records.new ≡ remove (take count records.old) at ++ (result ∷ drop count records.old) }
 {
-    let old = records[at];
-    records[at..count].rotate_left(1);
+    let held = &mut records[..count];
+    let old = held[at];
+    held[at..].rotate_left(1);
     old
 }

@@ -10,5 +10,6 @@ use Rattle.register.proofs.slice.find.Goals as goal
 pub returns : goal.returns
 returns g c =
     let is : g.row.T.Denot → Bool = λ x. g.T.Key.PartialEq.eq (g.T.Keyed.keyed x) c.args.key.now in
-    c.copied.ensures ∙ find_from_yields_List is _ _ c.find.result c.find.ensures.ran (YieldsList-from_slice c.first_places-register.result.now (cc)) (λ x b q k. search (rules, tests)) ∙ find_is_first is _
-    ∙ ap (first is) c.first_places-register.ensures
+    c.copied.ensures
+    ∙ find_from_yields_List is _ _ c.find.result c.find.ensures.ran (YieldsList-from_slice c.first_places-register.result.now (cc)) (λ x b q k. search (rules, tests))
+    ∙ find_is_first is _ ∙ ap (first is) c.first_places-register.ensures

@@ -4,7 +4,7 @@ ghost use Rattle.usage.specs.Books.{Empty, books_of, own_homes};
 ghost use Rattle.std.proofs.Common.{rules};
 
 use crate::pooled::PooledPurse;
-use records::Returned;
+use records::Refusal;
 use usage::purse::Purse;
 
 const OWN_HOMES: [u8; 16] = [0, 1, 2, 3, 4, 5, 6, 7, 8, 9, 10, 11, 12, 13, 14, 15];
@@ -21,9 +21,8 @@ impl OwnPurse {
     pub fn new() -> OwnPurse
         ensures { Empty (books_of own_homes result.pool.left result.pool.held result.pool.spent) }
     {
-        match PooledPurse::new(OWN_HOMES) {
-            Ok(pool) => OwnPurse { pool },
-            Err(_) => unreachable(),
+        OwnPurse {
+            pool: PooledPurse::new(OWN_HOMES).unwrap(),
         }
     }
 }
@@ -33,27 +32,27 @@ impl Purse for OwnPurse {
 
     ghost sound = { Prim.search rules };
 
-    fn add(&mut self, account: u32, amount: u32) -> Returned {
+    fn add(&mut self, account: u32, amount: u32) -> Result<(), Refusal> {
         self.pool.add(account, amount)
     }
 
-    fn hold(&mut self, account: u32, amount: u32) -> Returned {
+    fn hold(&mut self, account: u32, amount: u32) -> Result<(), Refusal> {
         self.pool.hold(account, amount)
     }
 
-    fn settle(&mut self, account: u32, hold: u32, charge: u32) -> Returned {
+    fn settle(&mut self, account: u32, hold: u32, charge: u32) -> Result<(), Refusal> {
         self.pool.settle(account, hold, charge)
     }
 
-    fn left(&self, account: u32) -> Result<u32, Returned> {
+    fn left(&self, account: u32) -> Result<u32, Refusal> {
         self.pool.left(account)
     }
 
-    fn held(&self, account: u32) -> Result<u32, Returned> {
+    fn held(&self, account: u32) -> Result<u32, Refusal> {
         self.pool.held(account)
     }
 
-    fn spent(&self, account: u32) -> Result<u32, Returned> {
+    fn spent(&self, account: u32) -> Result<u32, Refusal> {
         self.pool.spent(account)
     }
 }

@@ -1,10 +1,11 @@
 //! The pooled purse: accounts at homes that they share.
-ghost use Rattle.std.specs.Prelude.{◌≡◌, ℕ, ◌+◌, ◌<◌, ◌≤◌, length, is_ok, if◌then◌else◌, Some, None, Ok, Err, MatchResult, nat_le, slice_index};
-ghost use Rattle.records.specs.declared.Returned.TheVariants.{OutOfRange};
+ghost use Rattle.std.specs.Prelude.{◌≡◌, ℕ, ◌+◌, ◌<◌, ◌≤◌, length, is_ok, if◌then◌else◌, Ok, Err, MatchResult, nat_le, slice_index};
+ghost use Rattle.records.specs.Ranges.{amount_fits};
+ghost use Rattle.records.specs.declared.Refusal.TheVariants.{OutOfRange};
 ghost use Rattle.usage.specs.Books.{Empty, books_of, homes_fit};
 ghost use Rattle.std.proofs.Common.{rules};
 
-use records::Returned;
+use records::Refusal;
 use usage::purse::Purse;
 
 // The most that a home can be granted, and the largest amount.
@@ -27,12 +28,12 @@ pub struct PooledPurse {
 
 impl PooledPurse {
     /// A purse at nothing, with each account's home, from 0 to 15.
-    pub fn new(homes: [u8; 16]) -> Result<PooledPurse, Returned>
+    pub fn new(homes: [u8; 16]) -> Result<PooledPurse, Refusal>
         ensures refuses { is_ok result ≡ homes_fit homes }
         ensures made { MatchResult result (λ p. (p.homes ≡ homes) × Empty (books_of p.homes p.left p.held p.spent)) (λ e. e ≡ OutOfRange) }
     {
         if !homes_fit(&homes) {
-            return Err(Returned::OutOfRange);
+            return Err(Refusal::OutOfRange);
         }
         Ok(PooledPurse {
             homes,
@@ -43,14 +44,13 @@ impl PooledPurse {
     }
 
     // The home of an account.
-    fn home_of(&self, account: u32) -> Option<usize>
-        ensures { result ≡ (if nat_le account 15 then Some (slice_index self.now.homes account) else None) }
+    fn home_of(&self, account: u32) -> Result<usize, Refusal>
+        ensures { result ≡ (if nat_le account 15 then Ok (slice_index self.now.homes account) else Err OutOfRange) }
     {
-        if account < 16 {
-            Some(self.homes[account as usize] as usize)
-        } else {
-            None
+        if account > 15 {
+            return Err(Refusal::OutOfRange);
         }
+        Ok(self.homes[account as usize] as usize)
     }
 }
 
@@ -59,88 +59,70 @@ impl Purse for PooledPurse {
 
     ghost sound = { Prim.search rules };
 
-    fn add(&mut self, account: u32, amount: u32) -> Returned {
-        let Some(home) = self.home_of(account) else {
-            return Returned::OutOfRange;
-        };
-        if amount > MOST {
-            return Returned::OutOfRange;
-        }
+    fn add(&mut self, account: u32, amount: u32) -> Result<(), Refusal> {
+        let home = self.home_of(account)?;
+        in_range(amount)?;
         let granted = self.left[home] + (self.held[home] + self.spent[home]);
         if granted + amount > MOST {
-            return Returned::GrantTooLarge;
+            return Err(Refusal::GrantTooLarge);
         }
         self.left[home] += amount;
-        Returned::Accepted
+        Ok(())
     }
 
-    fn hold(&mut self, account: u32, amount: u32) -> Returned {
-        let Some(home) = self.home_of(account) else {
-            return Returned::OutOfRange;
-        };
-        if amount > MOST {
-            return Returned::OutOfRange;
-        }
+    fn hold(&mut self, account: u32, amount: u32) -> Result<(), Refusal> {
+        let home = self.home_of(account)?;
+        in_range(amount)?;
         if amount > self.left[home] {
-            return Returned::CreditShort;
+            return Err(Refusal::CreditShort);
         }
         self.left[home] -= amount;
         self.held[home] += amount;
-        Returned::Accepted
+        Ok(())
     }
 
-    fn settle(&mut self, account: u32, hold: u32, charge: u32) -> Returned {
-        let Some(home) = self.home_of(account) else {
-            return Returned::OutOfRange;
-        };
-        if hold > MOST {
-            return Returned::OutOfRange;
-        }
-        if charge > MOST {
-            return Returned::OutOfRange;
-        }
+    fn settle(&mut self, account: u32, hold: u32, charge: u32) -> Result<(), Refusal> {
+        let home = self.home_of(account)?;
+        in_range(hold)?;
+        in_range(charge)?;
         if charge > hold {
-            return Returned::HoldMismatch;
+            return Err(Refusal::HoldMismatch);
         }
         if hold > self.held[home] {
-            return Returned::HoldMismatch;
+            return Err(Refusal::HoldMismatch);
         }
         self.left[home] += hold - charge;
         self.held[home] -= hold;
         self.spent[home] += charge;
-        Returned::Accepted
+        Ok(())
     }
 
-    fn left(&self, account: u32) -> Result<u32, Returned> {
-        match self.home_of(account) {
-            Some(home) => Ok(self.left[home]),
-            None => Err(Returned::OutOfRange),
-        }
+    fn left(&self, account: u32) -> Result<u32, Refusal> {
+        Ok(self.left[self.home_of(account)?])
     }
 
-    fn held(&self, account: u32) -> Result<u32, Returned> {
-        match self.home_of(account) {
-            Some(home) => Ok(self.held[home]),
-            None => Err(Returned::OutOfRange),
-        }
+    fn held(&self, account: u32) -> Result<u32, Refusal> {
+        Ok(self.held[self.home_of(account)?])
     }
 
-    fn spent(&self, account: u32) -> Result<u32, Returned> {
-        match self.home_of(account) {
-            Some(home) => Ok(self.spent[home]),
-            None => Err(Returned::OutOfRange),
-        }
+    fn spent(&self, account: u32) -> Result<u32, Refusal> {
+        Ok(self.spent[self.home_of(account)?])
     }
+}
+
+// Refuses an amount above the most.
+fn in_range(amount: u32) -> Result<(), Refusal>
+    ensures { result ≡ (if amount_fits amount then Ok tt else Err OutOfRange) }
+{
+    if amount > MOST {
+        return Err(Refusal::OutOfRange);
+    }
+    Ok(())
 }
 
 // Whether each is a home, from 0 to 15.
 fn homes_fit(homes: &[u8]) -> bool
     ensures { result ≡ homes_fit homes.now }
 {
-    for home in homes {
-        if *home > 15 {
-            return false;
-        }
-    }
-    true
+    homes.iter().all(|home| *home <= 15)
 }

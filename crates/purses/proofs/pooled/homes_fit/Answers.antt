@@ -1,12 +1,12 @@
-use Rattle.std.proofs.Common.{arith}
-use Rattle.purses.proofs.Homes.{homes_more, homes_not, homes_all}
+use Rattle.std.proofs.Common.{◌∙◌, arith}
+use Rattle.std.proofs.lemmas.Bool.Decides.{nat_tests}
+use Rattle.records.specs.Ranges.{between}
+use Rattle.std.proofs.lemmas.Iterator.{YieldsList-from_slice}
+use Rattle.std.proofs.lemmas.Iterator.Search.{all_from_yields_List}
+use Rattle.purses.proofs.Homes.{list_all-fits}
 use Rattle.purses.proofs.pooled.homes_fit.Goals as goal
 
-pub returns-then-home-gt15 : goal.returns-then-home-gt15
-returns-then-home-gt15 c = homes_not c.args.homes.now c.loop-home.home-index (omega arith) c.loop-home.invariant (omega arith)
-
-pub loop-home-preserved : goal.loop-home-preserved
-loop-home-preserved c = homes_more c.args.homes.now c.loop-home.home-index (omega arith) c.loop-home.invariant (omega arith)
-
 pub returns : goal.returns
-returns c = homes_all c.args.homes.now c.loop-home.home-index (omega arith) c.loop-home.invariant
+returns c =
+    all_from_yields_List (between 0 15) _ _ _ c.all.ensures.ran (YieldsList-from_slice c.args.homes.now cc) (λ x b q k. grind (arith, nat_tests))
+    ∙ list_all-fits c.args.homes.now

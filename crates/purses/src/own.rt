@@ -1,7 +1,9 @@
 //! The own purse: each account is its home.
 ghost use Rattle.std.specs.Prelude.{◌≡◌};
-ghost use Rattle.usage.specs.Books.{Empty, books_of, own_homes};
+ghost use Rattle.usage.specs.Books.{Empty, own_homes};
+ghost use Rattle.purses.specs.Credits.{credit_books, most_at};
 ghost use Rattle.std.proofs.Common.{rules};
+ghost use Rattle.std.proofs.lemmas.List.{length-map};
 
 use crate::pooled::PooledPurse;
 use records::Refusal;
@@ -19,7 +21,7 @@ pub struct OwnPurse {
 impl OwnPurse {
     /// A purse at nothing.
     pub fn new() -> OwnPurse
-        ensures { Empty (books_of own_homes result.pool.left result.pool.held result.pool.spent) }
+        ensures { Empty (credit_books own_homes result.pool.credits) }
     {
         OwnPurse {
             pool: PooledPurse::new(OWN_HOMES).unwrap(),
@@ -28,9 +30,9 @@ impl OwnPurse {
 }
 
 impl Purse for OwnPurse {
-    ghost books = { λ p. books_of own_homes p.pool.left p.pool.held p.pool.spent };
+    ghost books = { λ p. credit_books own_homes p.pool.credits };
 
-    ghost sound = { Prim.search rules };
+    ghost sound = { Prim.search (rules, length-map, most_at) };
 
     fn add(&mut self, account: u32, amount: u32) -> Result<(), Refusal> {
         self.pool.add(account, amount)

@@ -1,45 +1,43 @@
 //! The pooled purse: accounts at homes that they share.
-ghost use Rattle.std.specs.Prelude.{◌≡◌, ℕ, ◌+◌, ◌<◌, ◌≤◌, length, is_ok, if◌then◌else◌, Ok, Err, MatchResult, nat_le, slice_index};
-ghost use Rattle.records.specs.Ranges.{amount_fits};
+ghost use Rattle.std.specs.Prelude.{◌≡◌, ℕ, ◌<◌, length, is_ok, if◌then◌else◌, Ok, Err, MatchResult, nat_le, slice_index};
 ghost use Rattle.records.specs.declared.Refusal.TheVariants.{OutOfRange};
-ghost use Rattle.usage.specs.Books.{Empty, books_of, homes_fit};
+ghost use Rattle.usage.specs.Books.{Empty, homes_fit};
+ghost use Rattle.purses.specs.Credits.{credit_books};
 ghost use Rattle.std.proofs.Common.{rules};
+ghost use Rattle.std.proofs.lemmas.List.{length-map};
+ghost use Rattle.purses.specs.Credits.{most_at};
 
+use crate::credit::Credit;
 use records::Refusal;
 use usage::purse::Purse;
-
-// The most that a home can be granted, and the largest amount.
-const MOST: u32 = 1_000_000_000;
 
 /// Sixteen accounts, each at the home that it was given when the purse was made.
 #[derive(Drop)]
 pub struct PooledPurse {
     homes: [u8; 16],
-    left: [u32; 16],
-    held: [u32; 16],
-    spent: [u32; 16],
+    credits: [Credit; 16],
     ghost accounts: { length homes ≡ 16 },
-    ghost lefts: { length left ≡ 16 },
-    ghost helds: { length held ≡ 16 },
-    ghost spents: { length spent ≡ 16 },
+    ghost places: { length credits ≡ 16 },
     ghost within: { (account : ℕ) → slice_index homes account < 16 },
-    ghost most: { (home : ℕ) → slice_index left home + (slice_index held home + slice_index spent home) ≤ 1000000000 },
 }
 
 impl PooledPurse {
     /// A purse at nothing, with each account's home, from 0 to 15.
     pub fn new(homes: [u8; 16]) -> Result<PooledPurse, Refusal>
         ensures refuses { is_ok result ≡ homes_fit homes }
-        ensures made { MatchResult result (λ p. (p.homes ≡ homes) × Empty (books_of p.homes p.left p.held p.spent)) (λ e. e ≡ OutOfRange) }
+        ensures made { MatchResult result (λ p. (p.homes ≡ homes) × Empty (credit_books p.homes p.credits)) (λ e. e ≡ OutOfRange) }
     {
         if !homes_fit(&homes) {
             return Err(Refusal::OutOfRange);
         }
+        let nothing = Credit {
+            left: 0,
+            held: 0,
+            spent: 0,
+        };
         Ok(PooledPurse {
             homes,
-            left: [0; 16],
-            held: [0; 16],
-            spent: [0; 16],
+            credits: [nothing; 16],
         })
     }
 
@@ -54,70 +52,43 @@ impl PooledPurse {
     }
 }
 
+#[tactic(auto, using(crate::proofs::Credits::credits))]
 impl Purse for PooledPurse {
-    ghost books = { λ p. books_of p.homes p.left p.held p.spent };
+    ghost books = { λ p. credit_books p.homes p.credits };
 
-    ghost sound = { Prim.search rules };
+    ghost sound = { Prim.search (rules, length-map, most_at) };
 
     fn add(&mut self, account: u32, amount: u32) -> Result<(), Refusal> {
         let home = self.home_of(account)?;
-        in_range(amount)?;
-        let granted = self.left[home] + (self.held[home] + self.spent[home]);
-        if granted + amount > MOST {
-            return Err(Refusal::GrantTooLarge);
-        }
-        self.left[home] += amount;
-        Ok(())
+        let credits = &mut self.credits;
+        credits[home].add(amount)
     }
 
     fn hold(&mut self, account: u32, amount: u32) -> Result<(), Refusal> {
         let home = self.home_of(account)?;
-        in_range(amount)?;
-        if amount > self.left[home] {
-            return Err(Refusal::CreditShort);
-        }
-        self.left[home] -= amount;
-        self.held[home] += amount;
-        Ok(())
+        let mut credit = self.credits[home];
+        let returned = credit.hold(amount);
+        self.credits[home] = credit;
+        returned
     }
 
     fn settle(&mut self, account: u32, hold: u32, charge: u32) -> Result<(), Refusal> {
         let home = self.home_of(account)?;
-        in_range(hold)?;
-        in_range(charge)?;
-        if charge > hold {
-            return Err(Refusal::HoldMismatch);
-        }
-        if hold > self.held[home] {
-            return Err(Refusal::HoldMismatch);
-        }
-        self.left[home] += hold - charge;
-        self.held[home] -= hold;
-        self.spent[home] += charge;
-        Ok(())
+        let PooledPurse { credits, .. } = self;
+        credits[home].settle(hold, charge)
     }
 
     fn left(&self, account: u32) -> Result<u32, Refusal> {
-        Ok(self.left[self.home_of(account)?])
+        Ok(self.credits[self.home_of(account)?].left)
     }
 
     fn held(&self, account: u32) -> Result<u32, Refusal> {
-        Ok(self.held[self.home_of(account)?])
+        Ok(self.credits[self.home_of(account)?].held)
     }
 
     fn spent(&self, account: u32) -> Result<u32, Refusal> {
-        Ok(self.spent[self.home_of(account)?])
+        Ok(self.credits[self.home_of(account)?].spent)
     }
-}
-
-// Refuses an amount above the most.
-fn in_range(amount: u32) -> Result<(), Refusal>
-    ensures { result ≡ (if amount_fits amount then Ok tt else Err OutOfRange) }
-{
-    if amount > MOST {
-        return Err(Refusal::OutOfRange);
-    }
-    Ok(())
 }
 
 // Whether each is a home, from 0 to 15.

@@ -1,6 +1,5 @@
-use Rattle.std.proofs.Common.{◌≡◌, true, refl, arith, rules}
+use Rattle.std.proofs.Common.{◌≡◌, true, rules}
 use Rattle.usage.specs.Books.{homes_fit}
-use Rattle.usage.proofs.Nothing.{nothing_at}
 use Rattle.purses.proofs.Homes.{homes_below}
 use Rattle.purses.proofs.pooled.PooledPurse.new.Goals as goal
 
@@ -9,9 +8,6 @@ invariant_of-result c =
     let fit : homes_fit c.args.homes ≡ true = search rules in
     record {
       accounts = search rules;
-      lefts = refl;
-      helds = refl;
-      spents = refl;
+      places = search rules;
       within = homes_below c.args.homes fit;
-      most = λ home. omega (arith, nothing_at 16 home);
     }

@@ -15,3 +15,5 @@ pub homes_below : (hs : List ℕ) → homes_fit hs ≡ true → (account : ℕ) 
 homes_below [] e account = omega arith
 homes_below (h ∷ hs) e zero = grind (arith, nat_tests)
 homes_below (h ∷ hs) e (suc account) = let later : homes_fit hs ≡ true = grind (arith, nat_tests) in homes_below hs later account
+
+pub ruleset homes = (list_all-fits, homes_below)

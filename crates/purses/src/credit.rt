@@ -1,7 +1,7 @@
 //! The credit at a home.
-ghost use Rattle.std.specs.Prelude.{◌≡◌, ℕ, ◌+◌, ◌-◌, ◌≤◌, ◌&&◌, if◌then◌else◌, cond, Ok, Err, OnOk, OnErr, nat_le};
+ghost use Rattle.std.specs.Prelude.{◌≡◌, ℕ, ◌+◌, ◌-◌, ◌≤◌, ◌&&◌, if◌then◌else◌, Ok, Err, OnOk, OnErr, nat_le};
 ghost use Rattle.records.specs.Ranges.{amount_fits};
-ghost use Rattle.records.specs.Numbers.{returned_number};
+ghost use Rattle.records.specs.declared.Refusal.TheVariants.{OutOfRange, CreditShort, GrantTooLarge, HoldMismatch};
 
 use records::Refusal;
 
@@ -18,9 +18,15 @@ pub struct Credit {
 }
 
 impl Credit {
+    pub const NOTHING: Credit = Credit {
+        left: 0,
+        held: 0,
+        spent: 0,
+    };
+
     /// Raises what is left.
     pub fn add(&mut self, amount: u32) -> Result<(), Refusal>
-        ensures returned { returned_number result ≡ cond (amount_fits amount) (cond (amount_fits (self.old.left + (self.old.held + self.old.spent) + amount)) 0 14) 2 }
+        ensures returned { result ≡ (if amount_fits amount then (if amount_fits (self.old.left + (self.old.held + self.old.spent) + amount) then Ok tt else Err GrantTooLarge) else Err OutOfRange) }
         ensures left { OnOk result (self.new.left ≡ self.old.left + amount) }
         ensures held { self.new.held ≡ self.old.held }
         ensures spent { self.new.spent ≡ self.old.spent }
@@ -37,7 +43,7 @@ impl Credit {
 
     /// Moves an amount from left to held.
     pub fn hold(&mut self, amount: u32) -> Result<(), Refusal>
-        ensures returned { returned_number result ≡ cond (amount_fits amount) (cond (nat_le amount self.old.left) 0 10) 2 }
+        ensures returned { result ≡ (if amount_fits amount then (if nat_le amount self.old.left then Ok tt else Err CreditShort) else Err OutOfRange) }
         ensures left { OnOk result (self.new.left ≡ self.old.left - amount) }
         ensures held { OnOk result (self.new.held ≡ self.old.held + amount) }
         ensures spent { self.new.spent ≡ self.old.spent }
@@ -54,7 +60,7 @@ impl Credit {
 
     /// Ends a hold: the charge is spent, and the rest is left again.
     pub fn settle(&mut self, hold: u32, charge: u32) -> Result<(), Refusal>
-        ensures returned { returned_number result ≡ cond (amount_fits hold && amount_fits charge) (cond (nat_le charge hold && nat_le hold self.old.held) 0 16) 2 }
+        ensures returned { result ≡ (if amount_fits hold && amount_fits charge then (if nat_le charge hold && nat_le hold self.old.held then Ok tt else Err HoldMismatch) else Err OutOfRange) }
         ensures left { OnOk result (self.new.left ≡ self.old.left + (hold - charge)) }
         ensures held { OnOk result (self.new.held ≡ self.old.held - hold) }
         ensures spent { OnOk result (self.new.spent ≡ self.old.spent + charge) }
@@ -74,7 +80,7 @@ impl Credit {
 
 // Refuses an amount above the most.
 fn in_range(amount: u32) -> Result<(), Refusal>
-    ensures { returned_number result ≡ cond (amount_fits amount) 0 2 }
+    ensures { result ≡ (if amount_fits amount then Ok tt else Err OutOfRange) }
 {
     if amount > MOST {
         return Err(Refusal::OutOfRange);

@@ -1,5 +1,7 @@
 //! The pooled purse: accounts at homes that they share.
 ghost use Rattle.std.specs.Prelude.{◌≡◌, ℕ, ◌<◌, length, is_ok, if◌then◌else◌, Ok, Err, MatchResult, nat_le, slice_index};
+ghost use Rattle.std.specs.List.{list_all};
+ghost use Rattle.records.specs.Ranges.{between};
 ghost use Rattle.records.specs.declared.Refusal.TheVariants.{OutOfRange};
 ghost use Rattle.usage.specs.Books.{Empty, homes_fit};
 ghost use Rattle.purses.specs.Credits.{credit_books};
@@ -22,6 +24,7 @@ pub struct PooledPurse {
 }
 
 impl PooledPurse {
+    #[tactic(auto, using(crate::proofs::Homes::homes))]
     /// A purse at nothing, with each account's home, from 0 to 15.
     pub fn new(homes: [u8; 16]) -> Result<PooledPurse, Refusal>
         ensures refuses { is_ok result ≡ homes_fit homes }
@@ -30,14 +33,9 @@ impl PooledPurse {
         if !homes_fit(&homes) {
             return Err(Refusal::OutOfRange);
         }
-        let nothing = Credit {
-            left: 0,
-            held: 0,
-            spent: 0,
-        };
         Ok(PooledPurse {
             homes,
-            credits: [nothing; 16],
+            credits: [Credit::NOTHING; 16],
         })
     }
 
@@ -66,15 +64,13 @@ impl Purse for PooledPurse {
 
     fn hold(&mut self, account: u32, amount: u32) -> Result<(), Refusal> {
         let home = self.home_of(account)?;
-        let mut credit = self.credits[home];
-        let returned = credit.hold(amount);
-        self.credits[home] = credit;
-        returned
+        let credits = &mut self.credits;
+        credits[home].hold(amount)
     }
 
     fn settle(&mut self, account: u32, hold: u32, charge: u32) -> Result<(), Refusal> {
         let home = self.home_of(account)?;
-        let PooledPurse { credits, .. } = self;
+        let credits = &mut self.credits;
         credits[home].settle(hold, charge)
     }
 
@@ -93,7 +89,7 @@ impl Purse for PooledPurse {
 
 // Whether each is a home, from 0 to 15.
 fn homes_fit(homes: &[u8]) -> bool
-    ensures { result ≡ homes_fit homes.now }
+    ensures { result ≡ list_all (between 0 15) homes.now }
 {
     homes.iter().all(|home| *home <= 15)
 }

@@ -28,9 +28,9 @@ impl Credit {
     pub fn add(&mut self, amount: u32) -> Result<(), Refusal>
         ensures returned { result ≡ (if amount_fits amount then (if amount_fits (self.old.left + (self.old.held + self.old.spent) + amount) then Ok tt else Err GrantTooLarge) else Err OutOfRange) }
         ensures left { OnOk result (self.new.left ≡ self.old.left + amount) }
-        ensures held { self.new.held ≡ self.old.held }
-        ensures spent { self.new.spent ≡ self.old.spent }
-        ensures err { OnErr result (self.new.left ≡ self.old.left) }
+        ensures held { OnOk result (self.new.held ≡ self.old.held) }
+        ensures spent { OnOk result (self.new.spent ≡ self.old.spent) }
+        ensures err { OnErr result (self.new ≡ self.old) }
     {
         in_range(amount)?;
         let granted = self.left + (self.held + self.spent);
@@ -46,7 +46,7 @@ impl Credit {
         ensures returned { result ≡ (if amount_fits amount then (if nat_le amount self.old.left then Ok tt else Err CreditShort) else Err OutOfRange) }
         ensures left { OnOk result (self.new.left ≡ self.old.left - amount) }
         ensures held { OnOk result (self.new.held ≡ self.old.held + amount) }
-        ensures spent { self.new.spent ≡ self.old.spent }
+        ensures spent { OnOk result (self.new.spent ≡ self.old.spent) }
         ensures err { OnErr result (self.new ≡ self.old) }
     {
         in_range(amount)?;

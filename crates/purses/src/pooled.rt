@@ -24,8 +24,8 @@ pub struct PooledPurse {
 }
 
 impl PooledPurse {
-    #[tactic(auto, using(crate::proofs::Homes::homes))]
     /// A purse at nothing, with each account's home, from 0 to 15.
+    #[tactic(auto, using(crate::proofs::Homes::homes))]
     pub fn new(homes: [u8; 16]) -> Result<PooledPurse, Refusal>
         ensures refuses { is_ok result ≡ homes_fit homes }
         ensures made { MatchResult result (λ p. (p.homes ≡ homes) × Empty (credit_books p.homes p.credits)) (λ e. e ≡ OutOfRange) }

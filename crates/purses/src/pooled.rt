@@ -4,10 +4,9 @@ ghost use Rattle.std.specs.List.{list_all};
 ghost use Rattle.records.specs.Ranges.{between};
 ghost use Rattle.records.specs.declared.Refusal.TheVariants.{OutOfRange};
 ghost use Rattle.usage.specs.Books.{Empty, homes_fit};
-ghost use Rattle.purses.specs.Credits.{credit_books};
+ghost use Rattle.purses.specs.Credits.{credit_books, most_at};
 ghost use Rattle.std.proofs.Common.{rules};
 ghost use Rattle.std.proofs.lemmas.List.{length-map};
-ghost use Rattle.purses.specs.Credits.{most_at};
 
 use crate::credit::Credit;
 use records::Refusal;

@@ -18,6 +18,7 @@ pub struct Credit {
 }
 
 impl Credit {
+    /// A home that was granted nothing.
     pub const NOTHING: Credit = Credit {
         left: 0,
         held: 0,

@@ -49,6 +49,8 @@ impl PooledPurse {
     }
 }
 
+// The calls borrow the array first: Rattle cannot yet borrow an element with a ghost field straight through a struct with
+// one, as in `self.credits[home].add(amount)`.
 #[tactic(auto, using(crate::proofs::Credits::credits))]
 impl Purse for PooledPurse {
     ghost books = { λ p. credit_books p.homes p.credits };

@@ -1,16 +1,16 @@
 //! Purses: what each call takes, refuses and leaves.
 use purses::own::OwnPurse;
 use purses::pooled::PooledPurse;
-use records::Returned;
+use records::Refusal;
+use records::number::returned_number;
 use std::test::Fail;
-use usage::number::returned_number;
 use usage::purse::Purse;
 
 // The most that a home can be granted.
 const MOST: u32 = 1_000_000_000;
 
 // What is left, held and spent at an account's home.
-fn figures<P: Purse>(purse: &P, account: u32) -> Result<[u32; 3], Returned> {
+fn figures<P: Purse>(purse: &P, account: u32) -> Result<[u32; 3], Refusal> {
     Ok([
         purse.left(account)?,
         purse.held(account)?,
@@ -21,42 +21,42 @@ fn figures<P: Purse>(purse: &P, account: u32) -> Result<[u32; 3], Returned> {
 #[test]
 fn a_hold_is_borne_by_what_is_left(rt: HostRuntime) -> Result<(), Fail> {
     for (left, returned, after) in [
-        (40, Returned::Accepted, [0, 40, 0]),
-        (39, Returned::CreditShort, [39, 0, 0]),
+        (40, Ok(()), [0, 40, 0]),
+        (39, Err(Refusal::CreditShort), [39, 0, 0]),
     ] {
         let mut purse = OwnPurse::new();
-        assert_eq!(rt; purse.add(3, left), Returned::Accepted);
+        assert_eq!(rt; purse.add(3, left), Ok(()));
         assert_eq!(rt; purse.hold(3, 40), returned);
         assert_eq!(rt; figures(&purse, 3)?, after);
     }
-    assert_eq!(rt; returned_number(Returned::CreditShort), 10);
+    assert_eq!(rt; returned_number(Err(Refusal::CreditShort)), 10);
     Ok(())
 }
 
 #[test]
 fn a_home_is_granted_no_more_than_the_most(rt: HostRuntime) -> Result<(), Fail> {
     let mut purse = OwnPurse::new();
-    assert_eq!(rt; purse.add(15, MOST), Returned::Accepted);
-    assert_eq!(rt; purse.add(15, 1), Returned::GrantTooLarge);
-    assert_eq!(rt; purse.hold(15, MOST), Returned::Accepted);
-    assert_eq!(rt; purse.settle(15, 500, 200), Returned::Accepted);
-    assert_eq!(rt; purse.add(15, 1), Returned::GrantTooLarge);
+    assert_eq!(rt; purse.add(15, MOST), Ok(()));
+    assert_eq!(rt; purse.add(15, 1), Err(Refusal::GrantTooLarge));
+    assert_eq!(rt; purse.hold(15, MOST), Ok(()));
+    assert_eq!(rt; purse.settle(15, 500, 200), Ok(()));
+    assert_eq!(rt; purse.add(15, 1), Err(Refusal::GrantTooLarge));
     assert_eq!(rt; figures(&purse, 15)?, [300, MOST - 500, 200]);
-    assert_eq!(rt; returned_number(Returned::GrantTooLarge), 14);
+    assert_eq!(rt; returned_number(Err(Refusal::GrantTooLarge)), 14);
     Ok(())
 }
 
 #[test]
 fn a_settled_hold_leaves_its_rest(rt: HostRuntime) -> Result<(), Fail> {
     let mut purse = OwnPurse::new();
-    assert_eq!(rt; purse.add(3, 100), Returned::Accepted);
-    assert_eq!(rt; purse.hold(3, 40), Returned::Accepted);
-    assert_eq!(rt; purse.settle(3, 40, 41), Returned::HoldMismatch);
-    assert_eq!(rt; purse.settle(3, 41, 25), Returned::HoldMismatch);
+    assert_eq!(rt; purse.add(3, 100), Ok(()));
+    assert_eq!(rt; purse.hold(3, 40), Ok(()));
+    assert_eq!(rt; purse.settle(3, 40, 41), Err(Refusal::HoldMismatch));
+    assert_eq!(rt; purse.settle(3, 41, 25), Err(Refusal::HoldMismatch));
     assert_eq!(rt; figures(&purse, 3)?, [60, 40, 0]);
-    assert_eq!(rt; purse.settle(3, 40, 25), Returned::Accepted);
+    assert_eq!(rt; purse.settle(3, 40, 25), Ok(()));
     assert_eq!(rt; figures(&purse, 3)?, [75, 0, 25]);
-    assert_eq!(rt; returned_number(Returned::HoldMismatch), 16);
+    assert_eq!(rt; returned_number(Err(Refusal::HoldMismatch)), 16);
     Ok(())
 }
 
@@ -70,21 +70,21 @@ fn amounts_and_accounts_are_in_range(rt: HostRuntime) -> Result<(), Fail> {
             purse.settle(account, amount, 0),
             purse.settle(account, 0, amount),
         ];
-        assert_eq!(rt; returned, [Returned::OutOfRange; 4]);
+        assert_eq!(rt; returned, [Err(Refusal::OutOfRange); 4]);
     }
     let refusals = [
         purse.left(16).err(),
         purse.held(16).err(),
         purse.spent(16).err(),
     ];
-    assert_eq!(rt; refusals, [Some(Returned::OutOfRange); 3]);
+    assert_eq!(rt; refusals, [Some(Refusal::OutOfRange); 3]);
     assert_eq!(rt; figures(&purse, 0)?, [0, 0, 0]);
-    assert_eq!(rt; returned_number(Returned::OutOfRange), 2);
+    assert_eq!(rt; returned_number(Err(Refusal::OutOfRange)), 2);
     Ok(())
 }
 
 // What stands at accounts 3 and 7 and at account 4, after calls at 3 and 7.
-fn used<P: Purse>(purse: &mut P) -> Result<[[u32; 3]; 3], Returned> {
+fn used<P: Purse>(purse: &mut P) -> Result<[[u32; 3]; 3], Refusal> {
     let _ = purse.add(3, 100);
     let _ = purse.add(7, 10);
     let _ = purse.hold(3, 40);
@@ -107,10 +107,10 @@ fn homes_are_from_0_to_15(rt: HostRuntime) {
     assert_eq!(rt; PooledPurse::new([15; 16]).err(), None);
     assert_eq!(rt;
         PooledPurse::new([16, 0, 0, 0, 0, 0, 0, 0, 0, 0, 0, 0, 0, 0, 0, 0]).err(),
-        Some(Returned::OutOfRange)
+        Some(Refusal::OutOfRange)
     );
     assert_eq!(rt;
         PooledPurse::new([0, 0, 0, 0, 0, 0, 0, 0, 0, 0, 0, 0, 0, 0, 0, 16]).err(),
-        Some(Returned::OutOfRange)
+        Some(Refusal::OutOfRange)
     );
 }

@@ -2,7 +2,7 @@
 #![tactic(auto)]
 
 ghost use Rattle.std.specs.Prelude.{◌≡◌};
-ghost use Rattle.records.specs.Ranges.{badge_number_fits, code_fits, serial_fits, attribute_fits, units_fit, prices_fit, limit_fits, clock_fits, temperature_fits};
+ghost use Rattle.records.specs.Ranges.{badge_number_fits, code_fits, serial_fits, attribute_fits, units_fit, price_fits, prices_fit, limit_fits, clock_fits, temperature_fits};
 
 /// A badge's number: 1 to 4,294,967,295.
 pub fn badge_number_fits(number: u32) -> bool
@@ -39,11 +39,18 @@ pub fn units_fit(units: u32) -> bool
     units <= 1_000
 }
 
-/// The four prices of a lot: each 0 to 1,000.
+/// A price: 0 to 1,000.
+pub fn price_fits(price: u32) -> bool
+    ensures { result ≡ price_fits price }
+{
+    price <= 1_000
+}
+
+/// The four prices of a lot.
 pub fn prices_fit(prices: &[u32; 4]) -> bool
     ensures { result ≡ prices_fit prices.now }
 {
-    prices.iter().all(|&price| price <= 1_000)
+    prices.iter().all(|&price| price_fits(price))
 }
 
 /// A head limit: 0 to 64.

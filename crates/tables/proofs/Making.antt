@@ -1,11 +1,10 @@
 -- Registers that pass the maker's checks are in range, in order and without heads. Assumes nothing.
-use Rattle.std.proofs.Common.{◌≡◌, ◌≤◌, Bool, true, eqb, List, [], ◌∷◌, length, sym, ap, ◌∙◌, subst, ⊎_elim, arith}
+use Rattle.std.proofs.Common.{◌≡◌, ◌≤◌, Bool, true, eqb, List, [], ◌∷◌, length, sym, subst, ⊎_elim, arith}
 use Rattle.register.specs.Lists.{In, all, before_next, rises}
 use Rattle.register.specs.Tests.{both, eqb_equal}
 use Rattle.records.specs.Ranges.{badge_number_fits, code_fits, attribute_fits, limit_fits, prices_fit}
 use Rattle.records.specs.declared.Badge.{Badge}
 use Rattle.records.specs.declared.Lot.{Lot}
-use Rattle.machine.specs.Journal.{new_scene}
 use Rattle.machine.specs.Rising.{BelowNext, Rising, badge_below, lot_below, InOrder}
 use Rattle.machine.specs.Fitting.{BadgeFits, LotFits, RegistersFit}
 use Rattle.tables.specs.Made.{badge_fits, lot_fits}

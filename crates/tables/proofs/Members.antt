@@ -1,5 +1,5 @@
 -- Std's tests of a list, in the repository's words. Assumes nothing.
-use Rattle.std.proofs.Common.{◌≡◌, Bool, true, false, cond, ◌&&◌, ◌||◌, List, [], ◌∷◌, is_some, Some, refl, ap, ◌∙◌}
+use Rattle.std.proofs.Common.{◌≡◌, Bool, cond, ◌&&◌, ◌||◌, List, [], ◌∷◌, is_some, Some, refl, ap}
 use Rattle.std.specs.List.{list_any, list_all}
 use Rattle.register.specs.Lists.{first, some, all}
 use Rattle.register.specs.Tests.{by_test}

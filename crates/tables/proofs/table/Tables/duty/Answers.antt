@@ -1,5 +1,4 @@
-use Rattle.std.proofs.Common.{◌≡◌, refl, ap, ◌∙◌, rules}
-use Rattle.register.specs.Lists.{changed}
+use Rattle.std.proofs.Common.{refl, ap, ◌∙◌, rules}
 use Rattle.machine.specs.State.{is_access, with_accesses}
 use Rattle.machine.specs.Scenes.{after_duty}
 use Rattle.tables.specs.Tables.{scene_of}

@@ -1,5 +1,5 @@
-use Rattle.std.proofs.Common.{◌≡◌, ◌+◌, ◌∷◌, [], ◌++◌, true, Some, is_some, sym, refl, ap, ◌∙◌, arith, rules}
-use Rattle.register.specs.Lists.{first, some}
+use Rattle.std.proofs.Common.{◌≡◌, ◌+◌, ◌∷◌, [], ◌++◌, Some, is_some, sym, refl, ap, ◌∙◌, arith, rules}
+use Rattle.register.specs.Lists.{first}
 use Rattle.register.proofs.Lists.{first_in}
 use Rattle.machine.specs.State.{is_lot, raise}
 use Rattle.tables.proofs.Keeping.{kept_entered, kept_at, heads_few}

@@ -1,4 +1,4 @@
-use Rattle.std.proofs.Common.{sym, refl, ap, ◌∙◌, rules}
+use Rattle.std.proofs.Common.{refl, ap, ◌∙◌, rules}
 use Rattle.machine.specs.State.{is_access, with_accesses}
 use Rattle.machine.specs.Scenes.{after_use}
 use Rattle.tables.specs.Tables.{scene_of}

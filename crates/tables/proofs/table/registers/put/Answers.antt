@@ -1,4 +1,4 @@
-use Rattle.std.proofs.Common.{◌≡◌, ℕ, true, false, cond, List, length, is_ok, Some, Option, Ok, Err, Result, nat_eq, nat_lt, sym, ap, ◌∙◌, rules}
+use Rattle.std.proofs.Common.{◌≡◌, ℕ, true, false, cond, List, length, is_ok, Option, Ok, Err, Result, nat_eq, nat_lt, sym, ap, ◌∙◌, rules}
 use Rattle.std.specs.Ordering.{is_lt, nat_cmp}
 use Rattle.std.specs.Cmp.Lexicographic.{pointwise, slice_cmp}
 use Rattle.register.specs.Lists.{first}
@@ -25,7 +25,7 @@ pub returns-in_err-insert-clause-returned : goal.returns-in_err-insert-clause-re
 returns-in_err-insert-clause-returned c =
     let heads : c.map_or-heads.result ≡ heads_of c.find.result = search rules in
     let put = was_put c.args.lot c.args.lots.now c.insert.new.self c.find.result c.map_or-heads.result c.insert.result c.requires c.find.ensures heads
-        c.insert.ensures.how c.insert.ensures.after in
+    c.insert.ensures.how c.insert.ensures.after in
     let failed : is_ok c.insert.result ≡ false = ap is_ok c.in_err-insert.was in
     let refusal : c.from_residual.result ≡ Err RegisterFull = search rules in
     refusal ∙ sym (ap (λ b. cond b (Ok tt) (Err RegisterFull)) (sym put.accepted ∙ failed))
@@ -34,7 +34,7 @@ pub returns : goal.returns
 returns c =
     let heads : c.map_or-heads.result ≡ heads_of c.find.result = search rules in
     let put = was_put c.args.lot c.args.lots.now c.insert.new.self c.find.result c.map_or-heads.result c.insert.result c.requires c.find.ensures heads
-        c.insert.ensures.how c.insert.ensures.after in
+    c.insert.ensures.how c.insert.ensures.after in
     let done : is_ok c.insert.result ≡ true = ap is_ok c.in_ok-insert.was in
     record {
       returned = sym (ap (λ b. cond b (Ok tt) (Err RegisterFull)) (sym put.accepted ∙ done));

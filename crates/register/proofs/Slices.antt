@@ -1,7 +1,7 @@
 -- Places in lists: the first that passes stands at its spot, a register changes there, and what a slice becomes that
 -- holds the register in its first places. Assumes nothing.
 use Rattle.std.proofs.Common.{◌≡◌, ℕ, suc, ◌+◌, ◌-◌, ◌<◌, ◌≤◌, min, Bool, true, cond, ltb, List, [], ◌∷◌, ◌++◌, length, get_or, take, drop, set, is_some, not, unwrap_or, Some, None, Option, sym, refl, ap, ◌∙◌, arith}
-use Rattle.std.proofs.lemmas.List.{append_assoc, append-nil, take-append-drop, set-append_left, set_at, length-take, length-take-le, take_at, take_all, take-take, get_or-take, drop_all, take_more}
+use Rattle.std.proofs.lemmas.List.{take_min, drop_min, append_assoc, append-nil, take-append-drop, set-append_left, set_at, length-take, length-take-le, take_at, take_all, take-take, get_or-take, drop_all, take_more}
 use Rattle.std.proofs.lemmas.Slice.{between_is}
 use Rattle.std.proofs.lemmas.Bool.Decides.{nat_tests}
 use Rattle.std.specs.List.{copy_within, insert, remove, position, position_or_len}
@@ -72,22 +72,6 @@ module _ {X : Type 0} (p : X → Bool) where
 
 -- the first places of a slice, where it has fewer too
 module _ {X : Type 0} where
-  pub take_least : (n : ℕ) (xs : List X) → take (min n (length xs)) xs ≡ take n xs
-  take_least n xs =
-      by_test (ltb n (length xs)) (λ _. take (min n (length xs)) xs ≡ take n xs)
-      (λ e. let few : n < length xs = grind (arith, nat_tests) in let all : min n (length xs) ≡ n = omega arith in ap (λ k. take k xs) all)
-      (λ e. let many : length xs ≤ n = not_below n (length xs) e in
-      let whole : length xs ≤ min n (length xs) = omega arith in
-      take_all (min n (length xs)) xs whole ∙ sym (take_all n xs many))
-
-  pub drop_least : (n : ℕ) (xs : List X) → drop (min n (length xs)) xs ≡ drop n xs
-  drop_least n xs =
-      by_test (ltb n (length xs)) (λ _. drop (min n (length xs)) xs ≡ drop n xs)
-      (λ e. let few : n < length xs = grind (arith, nat_tests) in let all : min n (length xs) ≡ n = omega arith in ap (λ k. drop k xs) all)
-      (λ e. let many : length xs ≤ n = not_below n (length xs) e in
-      let whole : length xs ≤ min n (length xs) = omega arith in
-      drop_all (min n (length xs)) xs whole ∙ sym (drop_all n xs many))
-
   -- a list in the first places, as long as what they held
   pub take_first : (n : ℕ) (xs ys : List X) → length ys ≡ length (take n xs) → take n (ys ++ drop n xs) ≡ ys
   take_first n xs ys e =
@@ -162,8 +146,8 @@ module _ {X : Type 0} {p : X → Bool} {n : ℕ} {s xs : List X} {at : ℕ} (sea
 
   pub struck_slice : (x : X) (after : List X) → after ≡ remove (take (length xs) s) at ++ (x ∷ drop (length xs) s) → after ≡ without p (take n s) ++ (x ∷ drop n s)
   struck_slice x after e =
-      let front : take (length xs) s ≡ take n s = ap (λ m. take m s) (long ∙ length-take n s) ∙ take_least n s in
-      let behind : drop (length xs) s ≡ drop n s = ap (λ m. drop m s) (long ∙ length-take n s) ∙ drop_least n s in
+      let front : take (length xs) s ≡ take n s = ap (λ m. take m s) (long ∙ length-take n s) ∙ take_min n s in
+      let behind : drop (length xs) s ≡ drop n s = ap (λ m. drop m s) (long ∙ length-take n s) ∙ drop_min n s in
       e ∙ ap (λ ys. remove ys at ++ (x ∷ drop (length xs) s)) front
       ∙ ap (λ ys. remove (take n s) at ++ (x ∷ ys)) behind
       ∙ ap (λ i. remove (take n s) i ++ (x ∷ drop n s)) place

@@ -17,7 +17,7 @@ use Rattle.machine.specs.Runs.{after_calls}
 use Rattle.machine.proofs.Lawfulness.{shifts_lawful}
 use Rattle.monitor.specs.Answered.{Answered}
 use Rattle.journal.specs.declared.Entry.{Entry}
-use Rattle.journal.specs.Notes.{Noted, noted, notes, noted_in, replayed}
+use Rattle.journal.specs.Notes.{Noted, NotedTo, noted, notes, noted_in, replayed}
 
 -- what an entry notes that keeps as many lines of its sheet as the call wrote
 pub made_entry : (call : Call) (o : Outcome) (e : Entry) (after : State) (sheet new_sheet : List Line) → e.call ≡ call →
@@ -39,12 +39,7 @@ after_append : (p : Policy) (s : State) (calls : List Call) (call : Call) →
 after_append p s [] call = refl
 after_append p s (first ∷ calls) call = after_append p (step p s 65 first).after calls call
 
--- the first calls, as many as a number, were noted, and left a state
-pub record NotedTo (p : Policy) (first : State) (calls : List Call) (n : ℕ) (entries : List Entry) (s : State) : Type 0 where
-  pub counted : length entries ≡ n
-  pub noted : map noted_in entries ≡ notes p first (take n calls)
-  pub state : s ≡ after_calls p first (take n calls)
-
+-- one call more, and none more
 pub noted_more : (p q : Policy) → q ≡ p → (first : State) (calls : List Call) (n : ℕ) (entries new_entries : List Entry) (s after : State) (call other : Call) →
     NotedTo p first calls n entries s → n < length calls → call ≡ get_or calls n other →
     map noted_in new_entries ≡ map noted_in entries ++ (noted call (step q s 65 call) ∷ []) → after ≡ (step q s 65 call).after →
@@ -68,7 +63,6 @@ noted_more p q same first calls n entries new_entries s after call other so_far 
           ∙ sym (after_append p first (take n calls) call) ∙ ap (after_calls p first) (sym one_more);
     }
 
--- none more
 pub noted_kept : (p : Policy) (first : State) (calls : List Call) (n len : ℕ) (entries new_entries : List Entry) (s t : State) →
     NotedTo p first calls n entries s → new_entries ≡ entries → t ≡ s → len ≡ length new_entries → NotedTo p first calls len new_entries t
 noted_kept p first calls n len entries new_entries s t so_far kept same long =

@@ -1,12 +1,12 @@
 -- What a journal notes of calls, and what the machine answers to them. Assumes nothing.
-use Rattle.std.specs.Prelude.{ℕ, List, [], ◌∷◌, length, vec_items}
+use Rattle.std.specs.Prelude.{◌≡◌, ℕ, List, [], ◌∷◌, map, length, take, vec_items}
 use Rattle.records.specs.Numbers.{returned_number}
 use Rattle.records.specs.declared.Call.{Call}
 use Rattle.records.specs.declared.Line.{Line}
 use Rattle.machine.specs.State.{Policy, State}
 use Rattle.machine.specs.Step.{Outcome}
 use Rattle.machine.specs.Journal.{Entry as Replayed}
-use Rattle.machine.specs.Runs.{outcomes}
+use Rattle.machine.specs.Runs.{outcomes, after_calls}
 use Rattle.journal.specs.declared.Entry.{Entry}
 
 -- a call with its fields, the four numbers that it answered, and the lines that it wrote
@@ -53,3 +53,9 @@ noted_in e = record {
 -- what the law reads of an entry: the call, what it returned, and the lines
 abbrev pub replayed : Entry → Replayed
 replayed e = record { call = e.call; returned = returned_number e.answer.returned; lines = vec_items e.lines }
+
+-- the first calls, as many as a number, were noted, and left a state
+pub record NotedTo (p : Policy) (first : State) (calls : List Call) (n : ℕ) (entries : List Entry) (s : State) : Type 0 where
+  pub counted : length entries ≡ n
+  pub noted : map noted_in entries ≡ notes p first (take n calls)
+  pub state : s ≡ after_calls p first (take n calls)

@@ -1,14 +1,13 @@
 //! The journal of a shift: each call with its fields, what it answered, and the lines that it wrote.
 #![tactic(auto)]
 
-ghost use Rattle.std.specs.Prelude.{◌≡◌, ◌<◌, true, false, List, [], ◌∷◌, ◌++◌, map, length, take, is_err, vec_len, MatchResult};
+ghost use Rattle.std.specs.Prelude.{◌≡◌, ◌<◌, List, [], ◌∷◌, ◌++◌, map, length, vec_len, MatchResult, OnOk, OnErr};
 ghost use Rattle.records.specs.declared.Badge.{Badge};
 ghost use Rattle.records.specs.declared.Lot.{Lot};
 ghost use Rattle.machine.specs.Step.{step};
 ghost use Rattle.machine.specs.Law.{New, Lawful};
-ghost use Rattle.machine.specs.Runs.{after_calls};
 ghost use Rattle.monitor.specs.Answered.{policy_by, state_by};
-ghost use Rattle.journal.specs.Notes.{noted, notes, noted_in, replayed};
+ghost use Rattle.journal.specs.Notes.{noted, noted_in, replayed, NotedTo};
 
 use monitor::Monitor;
 use records::{Answer, Call, Kind, Line, Right};
@@ -39,18 +38,11 @@ pub struct Entry {
     pub lines: Vec<Line>,
 }
 
-/// Whether all calls were made.
-#[derive(Clone, Copy, PartialEq, Eq, Debug)]
-pub enum Ended {
-    AllCalls,
-    OutOfMemory,
-}
-
 /// The entries of the calls that were made, in turn, and whether those were all.
 #[derive(Drop)]
 pub struct Journal {
     entries: Vec<Entry>,
-    ended: Ended,
+    ended: Result<(), AllocError>,
 }
 
 impl Journal {
@@ -61,8 +53,8 @@ impl Journal {
         &self.entries
     }
 
-    /// Whether all calls were made.
-    pub fn ended(&self) -> Ended
+    /// Whether all calls were made, or there was no memory for an entry.
+    pub fn ended(&self) -> Result<(), AllocError>
         ensures { result ≡ self.now.ended }
     {
         self.ended
@@ -77,25 +69,33 @@ pub fn run<R: Rule, O: Order, P: Purse>(
     calls: &[Call],
 ) -> Journal
     ensures law { (badges : List Badge) (lots : List Lot) → New badges lots (state_by P.Purse.books monitor.old) → Lawful (policy_by R.Rule.opening R.Rule.staying O.Order.before monitor.old) badges lots (P.Purse.books monitor.old.purse).homes (map replayed result.entries.items) (state_by P.Purse.books monitor.new) }
-    ensures notes { map noted_in result.entries.items ≡ notes (policy_by R.Rule.opening R.Rule.staying O.Order.before monitor.old) (state_by P.Purse.books monitor.old) (take (vec_len result.entries) calls.now) }
-    ensures state { state_by P.Purse.books monitor.new ≡ after_calls (policy_by R.Rule.opening R.Rule.staying O.Order.before monitor.old) (state_by P.Purse.books monitor.old) (take (vec_len result.entries) calls.now) }
-    ensures calls { (result.ended ≡ Ended.AllCalls → vec_len result.entries ≡ length calls.now) × (result.ended ≡ Ended.OutOfMemory → vec_len result.entries < length calls.now) }
-    ensures rule { monitor.new.rule ≡ monitor.old.rule }
-    ensures order { monitor.new.order ≡ monitor.old.order }
+    ensures noted { NotedTo (policy_by R.Rule.opening R.Rule.staying O.Order.before monitor.old) (state_by P.Purse.books monitor.old) calls.now (vec_len result.entries) result.entries.items (state_by P.Purse.books monitor.new) }
+    ensures all { OnOk result.ended (vec_len result.entries ≡ length calls.now) }
+    ensures not_all { OnErr result.ended (vec_len result.entries < length calls.now) }
+    ensures policy { monitor.new.policy ≡ monitor.old.policy }
 {
     let mut entries = Vec::new(heap);
+    let ended = note_all(heap, monitor, calls, &mut entries);
+    Journal { entries, ended }
+}
+
+// Makes the calls in turn, and notes each, until there is no memory for an entry.
+fn note_all<R: Rule, O: Order, P: Purse>(
+    heap: Global,
+    monitor: &mut Monitor<R, O, P>,
+    calls: &[Call],
+    entries: &mut Vec<Entry>,
+) -> Result<(), AllocError>
+    requires { entries.old.items ≡ [] }
+    ensures noted { NotedTo (policy_by R.Rule.opening R.Rule.staying O.Order.before monitor.old) (state_by P.Purse.books monitor.old) calls.now (vec_len entries.new) entries.new.items (state_by P.Purse.books monitor.new) }
+    ensures all { OnOk result (vec_len entries.new ≡ length calls.now) }
+    ensures not_all { OnErr result (vec_len entries.new < length calls.now) }
+    ensures policy { monitor.new.policy ≡ monitor.old.policy }
+{
     for call in calls {
-        if note(heap, monitor, *call, &mut entries).is_err() {
-            return Journal {
-                entries,
-                ended: Ended::OutOfMemory,
-            };
-        }
+        note(heap, monitor, *call, entries)?;
     }
-    Journal {
-        entries,
-        ended: Ended::AllCalls,
-    }
+    Ok(())
 }
 
 // Makes a call and notes it. Where there is no memory for the entry, nothing is done.
@@ -105,10 +105,9 @@ fn note<R: Rule, O: Order, P: Purse>(
     call: Call,
     entries: &mut Vec<Entry>,
 ) -> Result<(), AllocError>
-    ensures noted { is_err result ≡ false → (map noted_in entries.new.items ≡ map noted_in entries.old.items ++ noted call (step (policy_by R.Rule.opening R.Rule.staying O.Order.before monitor.old) (state_by P.Purse.books monitor.old) 65 call) ∷ []) × (state_by P.Purse.books monitor.new ≡ (step (policy_by R.Rule.opening R.Rule.staying O.Order.before monitor.old) (state_by P.Purse.books monitor.old) 65 call).after) }
-    ensures kept { is_err result ≡ true → (entries.new.items ≡ entries.old.items) × (monitor.new ≡ monitor.old) }
-    ensures rule { monitor.new.rule ≡ monitor.old.rule }
-    ensures order { monitor.new.order ≡ monitor.old.order }
+    ensures ok { OnOk result ((map noted_in entries.new.items ≡ map noted_in entries.old.items ++ noted call (step (policy_by R.Rule.opening R.Rule.staying O.Order.before monitor.old) (state_by P.Purse.books monitor.old) 65 call) ∷ []) × (state_by P.Purse.books monitor.new ≡ (step (policy_by R.Rule.opening R.Rule.staying O.Order.before monitor.old) (state_by P.Purse.books monitor.old) 65 call).after)) }
+    ensures err { OnErr result ((entries.new.items ≡ entries.old.items) × (monitor.new ≡ monitor.old)) }
+    ensures policy { monitor.new.policy ≡ monitor.old.policy }
 {
     entries.reserve(1)?;
     let entry = make_call(heap, monitor, call)?;
@@ -124,8 +123,7 @@ fn make_call<R: Rule, O: Order, P: Purse>(
     call: Call,
 ) -> Result<Entry, AllocError>
     ensures made { MatchResult result (λ e. (noted_in e ≡ noted call (step (policy_by R.Rule.opening R.Rule.staying O.Order.before monitor.old) (state_by P.Purse.books monitor.old) 65 call)) × (state_by P.Purse.books monitor.new ≡ (step (policy_by R.Rule.opening R.Rule.staying O.Order.before monitor.old) (state_by P.Purse.books monitor.old) 65 call).after)) (λ _. monitor.new ≡ monitor.old) }
-    ensures rule { monitor.new.rule ≡ monitor.old.rule }
-    ensures order { monitor.new.order ≡ monitor.old.order }
+    ensures policy { monitor.new.policy ≡ monitor.old.policy }
 {
     let mut lines = Vec::from_elem(heap, BLANK, 65)?;
     let answer = monitor.apply(&mut lines, call);

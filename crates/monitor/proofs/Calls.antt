@@ -1,22 +1,16 @@
 -- What a call answers, from its checks, its change and the sweep. Assumes nothing.
-use Rattle.std.proofs.Common.{◌≡◌, ℕ, suc, ◌+◌, ◌<◌, ◌≤◌, true, false, cond, not, eqb, ltb, leb, List, [], ◌∷◌, ◌++◌, length, drop, set, Some, None, Option, sym, refl, ap, ◌∙◌, subst, add-one, one-add, arith}
+use Rattle.std.proofs.Common.{◌≡◌, ℕ, suc, ◌+◌, ◌<◌, ◌≤◌, true, false, cond, not, eqb, ltb, leb, List, [], ◌∷◌, ◌++◌, length, drop, set, Ok, sym, refl, ap, ◌∙◌, subst, add-one, one-add, arith}
 use Rattle.std.proofs.lemmas.Bool.Decides.{nat_tests}
 use Rattle.register.specs.Lists.{some}
-use Rattle.register.specs.Tests.{by_test, eqb_equal, eqb_other, not_refused}
-use Rattle.records.specs.Numbers.{returned_number}
-use Rattle.records.specs.declared.Access.{Access}
+use Rattle.register.specs.Tests.{by_test, eqb_equal, not_refused}
 use Rattle.records.specs.declared.Answer.{Answer}
 use Rattle.records.specs.declared.Line.{Line}
-use Rattle.records.specs.declared.Kind.TheVariants.{Denied}
 use Rattle.records.specs.declared.Call.TheVariants.{Grant}
-use Rattle.records.specs.declared.Returned.{Returned}
-use Rattle.records.specs.declared.Returned.TheVariants.{Accepted, ShortSheet, OutOfRange, NoBadge, NoLot, NoAccess, AlreadyOpen, AccessesFull, SerialsSpent, QuestionFails, CreditShort, RegisterFull, InUse, UnitsSpent, GrantTooLarge, ClockSpent, HoldMismatch}
-use Rattle.usage.specs.Books.{Books, after_add, add_returns, add_leaves, after_hold, hold_returns, hold_leaves}
-use Rattle.machine.specs.State.{Policy, Scene, State, is_lot, situation, hold_of, with_scene}
-use Rattle.machine.specs.Lines.{opening_line}
+use Rattle.usage.specs.Books.{Books, after_add, add_returns, add_leaves}
+use Rattle.machine.specs.State.{Policy, Scene, State, is_lot, with_scene}
 use Rattle.machine.specs.Sweep.{sweep}
 use Rattle.machine.specs.Checks.{first_applying, open_checks, grant_checks}
-use Rattle.machine.specs.Step.{Outcome, Denial, denial_of, decided, open_denial, accepted, refused, unless_denied, unless_refused, with_grant, step, sheet_after}
+use Rattle.machine.specs.Step.{Outcome, accepted, refused, unless_refused, with_grant, step, sheet_after}
 use Rattle.machine.proofs.Checked.{none_apply}
 use Rattle.tables.specs.Tables.{if_passed}
 use Rattle.monitor.specs.Answered.{Answered, SweptBy, written_from}
@@ -43,11 +37,7 @@ scene_call p s scene new_scene next_serial returned n a after sheet new_sheet nu
     subst (λ (o : Outcome). Answered o a after sheet new_sheet)
     (finished p s (with_scene s scene) (state new_scene next_serial s.books) returned moved ∙ ap (λ k. unless_refused k s (accepted 0 [] (sweep p (with_scene s scene)))) number) h
 
--- a line on the first place of a sheet, and lines behind it
-one_line : (l : Line) (sheet : List Line) → 0 < length sheet → set sheet 0 l ≡ sheet_after (l ∷ []) sheet
-one_line l [] h = absurd (omega arith)
-one_line l (x ∷ sheet) h = refl
-
+-- lines behind one on the first place of a sheet
 more_lines : (l : Line) (lines sheet : List Line) → 0 < length sheet → written_from 1 lines (set sheet 0 l) ≡ sheet_after (l ∷ lines) sheet
 more_lines l lines [] h = absurd (omega arith)
 more_lines l lines (x ∷ sheet) h = ap (λ n. l ∷ (lines ++ drop n (l ∷ sheet))) (one-add (length lines))
@@ -55,7 +45,7 @@ more_lines l lines (x ∷ sheet) h = ap (λ n. l ∷ (lines ++ drop n (l ∷ she
 -- a call that writes a line of its own and then sweeps
 pub line_call : (p : Policy) (moved t : State) (serial : ℕ) (l line : Line) (r : ℕ × ℕ) (after : State) (sheet new_sheet : List Line) →
     0 < length sheet → t ≡ moved → line ≡ l → SweptBy (sweep p t) 1 r after (set sheet 0 line) new_sheet →
-    Answered (accepted serial (l ∷ []) (sweep p moved)) (record { returned = Accepted; lines = r.0 + 1; serial = serial; questions = r.1 }) after sheet new_sheet
+    Answered (accepted serial (l ∷ []) (sweep p moved)) (record { returned = Ok tt; lines = r.0 + 1; serial = serial; questions = r.1 }) after sheet new_sheet
 line_call p moved t serial l line r after sheet new_sheet h same same_line swept = record {
   returned = refl;
   lines = add-one r.0 ∙ ap suc (swept.lines ∙ ap (λ x. length (sweep p x).lines) same);
@@ -65,36 +55,6 @@ line_call p moved t serial l line r after sheet new_sheet h same same_line swept
   written = swept.written ∙ more_lines line (sweep p t).lines sheet h ∙ ap (λ x. sheet_after (x ∷ (sweep p t).lines) sheet) same_line
       ∙ ap (λ x. sheet_after (l ∷ (sweep p x).lines) sheet) same;
 }
-
--- an open that is denied: by the rule, or by the purse
-module _ (p : Policy) (s : State) (a : Access) (o : Outcome) (answer : ℕ) (known : answer ≡ p.opening (situation s.scene a)) (line : Line) (sheet : List Line) (h : 0 < length sheet) where
-  denied_call : (returned : Returned) (d : Denial) → open_denial p s a ≡ Some d → returned_number returned ≡ d.returned → line ≡ d.line → (after : State) → after ≡ s →
-      Answered (unless_denied (open_denial p s a) s o) (record { returned = returned; lines = 1; serial = 0; questions = 0 }) after sheet (set sheet 0 line)
-  denied_call returned d e number same after kept =
-      subst (λ (x : Option Denial). Answered (unless_denied x s o) (record { returned = returned; lines = 1; serial = 0; questions = 0 }) after sheet (set sheet 0 line)) (sym e)
-      (record { returned = number; lines = refl; serial = refl; questions = refl; state = kept; written = one_line line sheet h ∙ ap (λ x. sheet_after (x ∷ []) sheet) same })
-
-  pub question_denies : (answer ≡ 0 → ⊥) → line ≡ opening_line Denied 0 s.scene.room.clock answer a →
-      Answered (unless_denied (open_denial p s a) s o) (record { returned = QuestionFails; lines = 1; serial = 0; questions = 0 }) s sheet (set sheet 0 line)
-  question_denies other same =
-      let credit : ℕ = hold_returns a.account (hold_of a) s.books in
-      let fails : eqb answer 0 ≡ false = eqb_other answer 0 other in
-      denied_call QuestionFails (denial_of 9 s.scene.room.clock answer a)
-      (ap (λ n. decided n credit s.scene.room.clock a) (sym known)
-      ∙ ap (λ b. cond b (cond (eqb credit 0) None (Some (denial_of 10 s.scene.room.clock 256 a))) (Some (denial_of 9 s.scene.room.clock answer a))) fails)
-      refl same s refl
-
-  pub credit_denies : answer ≡ 0 → (returned : ℕ) → returned ≡ hold_returns a.account (hold_of a) s.books → (returned ≡ 0 → ⊥) → (books : Books) →
-      books ≡ hold_leaves a.account (hold_of a) s.books → line ≡ opening_line Denied 0 s.scene.room.clock 256 a →
-      Answered (unless_denied (open_denial p s a) s o) (record { returned = CreditShort; lines = 1; serial = 0; questions = 0 }) (state s.scene s.next_serial books) sheet (set sheet 0 line)
-  credit_denies passes returned number other books left same =
-      let credit : ℕ = hold_returns a.account (hold_of a) s.books in
-      let short : eqb credit 0 ≡ false = ap (λ n. eqb n 0) (sym number) ∙ eqb_other returned 0 other in
-      let kept : books ≡ s.books = left ∙ ap (λ b. cond b (after_hold a.account (hold_of a) s.books) s.books) short in
-      denied_call CreditShort (denial_of 10 s.scene.room.clock 256 a)
-      (ap (λ n. decided n credit s.scene.room.clock a) (sym known ∙ passes)
-      ∙ ap (λ b. cond b None (Some (denial_of 10 s.scene.room.clock 256 a))) short)
-      refl same (state s.scene s.next_serial books) (ap (state s.scene s.next_serial) kept)
 
 -- a grant: the purse's own check and change, and then the sweep
 pub grant_call : (p : Policy) (s : State) (account amount returned sheet_lines : ℕ) (books : Books) (a : Answer) (after : State) (sheet new_sheet : List Line) →
@@ -136,23 +96,3 @@ open_passed s sheet n c r units e =
       serial = grind (arith, nat_tests);
       lot = not_refused (some (is_lot c) s.scene.lots) none.1.1.1.0;
     }
-
--- only what is accepted returns 0
-pub not_zero : (r : Returned) → (r ≡ Accepted → ⊥) → returned_number r ≡ 0 → ⊥
-not_zero Accepted other e = other refl
-not_zero ShortSheet other e = omega (arith, e)
-not_zero OutOfRange other e = omega (arith, e)
-not_zero NoBadge other e = omega (arith, e)
-not_zero NoLot other e = omega (arith, e)
-not_zero NoAccess other e = omega (arith, e)
-not_zero AlreadyOpen other e = omega (arith, e)
-not_zero AccessesFull other e = omega (arith, e)
-not_zero SerialsSpent other e = omega (arith, e)
-not_zero QuestionFails other e = omega (arith, e)
-not_zero CreditShort other e = omega (arith, e)
-not_zero RegisterFull other e = omega (arith, e)
-not_zero InUse other e = omega (arith, e)
-not_zero UnitsSpent other e = omega (arith, e)
-not_zero GrantTooLarge other e = omega (arith, e)
-not_zero ClockSpent other e = omega (arith, e)
-not_zero HoldMismatch other e = omega (arith, e)

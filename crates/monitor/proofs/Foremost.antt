@@ -5,7 +5,7 @@ use Rattle.register.specs.Tests.{by_test}
 use Rattle.records.specs.declared.Access.{Access}
 use Rattle.machine.specs.State.{Policy, Scene, situation, fails}
 use Rattle.machine.specs.Sweep.{sooner_of, foremost_from}
-use Rattle.monitor.specs.declared.sweep.Failing.{Failing}
+use Rattle.monitor.specs.declared.policy.Failing.{Failing}
 use Rattle.monitor.specs.Failing.{failing, with_cause, ahead, foremost_with, foremost_of}
 
 module _ (p : Policy) (s : Scene) where

@@ -11,8 +11,9 @@ use Rattle.machine.specs.Lines.{closing_line}
 use Rattle.machine.specs.Sweep.{close, to_revoke, one_more, sweep}
 use Rattle.machine.proofs.Cases.{length_close}
 use Rattle.machine.proofs.Rounds.{done, sweep_done, sweep_more}
-use Rattle.monitor.specs.declared.sweep.Failing.{Failing}
-use Rattle.monitor.specs.Answered.{policy_of, written_from, SweptBy}
+use Rattle.monitor.specs.declared.policy.Failing.{Failing}
+use Rattle.monitor.specs.declared.Monitor.{Monitor}
+use Rattle.monitor.specs.Answered.{policy_of, policy_by, written_from, SweptBy}
 use Rattle.monitor.specs.Failing.{failing, with_cause}
 
 -- one line more, right behind those written
@@ -117,7 +118,6 @@ module _ (p : Policy) (first s : State) (from lines questions : ℕ) (sheet new_
       }
 
 -- a policy by a rule and an order, and by equal ones
-pub same_policy : {R O : Type 0} (opening staying : R → Situation → ℕ) (before : O → Access → Access → Bool) (r q : R) (o t : O) → r ≡ q → o ≡ t →
-    policy_of (opening r) (staying r) (before o) ≡ policy_of (opening q) (staying q) (before t)
-same_policy opening staying before r q o t e f =
-    ap (λ x. policy_of (opening x) (staying x) (before o)) e ∙ ap (λ x. policy_of (opening q) (staying q) (before x)) f
+pub same_policy : {R O P : Type 0} (opening staying : R → Situation → ℕ) (before : O → Access → Access → Bool) (m n : Monitor R O P) → m.policy ≡ n.policy →
+    policy_by opening staying before m ≡ policy_by opening staying before n
+same_policy opening staying before m n e = ap (λ q. policy_of (opening q.rule) (staying q.rule) (before q.order)) e

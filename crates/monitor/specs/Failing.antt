@@ -2,7 +2,7 @@
 use Rattle.std.specs.Prelude.{ℕ, Bool, cond, List, [], ◌∷◌, Some, None, Option, ◌==◌}
 use Rattle.records.specs.declared.Access.{Access}
 use Rattle.machine.specs.State.{Policy, Scene, situation}
-use Rattle.monitor.specs.declared.sweep.Failing.{Failing}
+use Rattle.monitor.specs.declared.policy.Failing.{Failing}
 
 abbrev pub failing : Access → ℕ → Failing
 failing a cause = record { access = a; cause = cause }

@@ -1,7 +1,7 @@
 //! The calls. Each is lent a sheet, and answers four numbers.
-ghost use Rattle.std.specs.Prelude.{◌≡◌, ◌<◌, ◌≤◌, true, Some, [], ◌∷◌, length};
-ghost use Rattle.register.specs.Lists.{first, some};
-ghost use Rattle.machine.specs.State.{is_access, is_lot};
+ghost use Rattle.std.specs.Prelude.{◌≡◌, ◌≤◌, Some, Err, [], ◌∷◌, length};
+ghost use Rattle.register.specs.Lists.{first};
+ghost use Rattle.machine.specs.State.{is_access};
 ghost use Rattle.tables.specs.Tables.{scene_of};
 ghost use Rattle.records.specs.Numbers.{returned_number};
 ghost use Rattle.records.specs.declared.Kind.TheVariants.{Opened, Ended};
@@ -10,10 +10,10 @@ ghost use Rattle.machine.specs.Lines.{opening_line, closing_line};
 ghost use Rattle.machine.specs.Sweep.{close, sweep};
 ghost use Rattle.machine.specs.Report.{Reported};
 ghost use Rattle.machine.specs.Step.{step, accepted, opened, open_denial, unless_denied, unless_refused};
-ghost use Rattle.monitor.specs.Answered.{policy_by, state_by, entered_under, Answered};
+ghost use Rattle.monitor.specs.Answered.{policy_by, state_by, entered_under, CanOpen, Makes, Steps};
 
 use crate::Monitor;
-use records::{Access, Answer, Call, Kind, Line, Returned};
+use records::{Access, Answer, Call, Kind, Line, Refusal};
 use tables::line::{closing_line, hold_of, opening_line};
 use usage::order::Order;
 use usage::purse::Purse;
@@ -29,9 +29,7 @@ impl<R: Rule, O: Order, P: Purse> Monitor<R, O, P> {
         right: u32,
         units: u32,
     ) -> Answer
-        ensures step { Answered (step (policy_by R.Rule.opening R.Rule.staying O.Order.before self.old) (state_by P.Purse.books self.old) (length sheet.old) (Open badge lot right units)) result (state_by P.Purse.books self.new) sheet.old sheet.new }
-        ensures rule { self.new.rule ≡ self.old.rule }
-        ensures order { self.new.order ≡ self.old.order }
+        ensures { Steps R.Rule.opening R.Rule.staying O.Order.before P.Purse.books (Open badge lot right units) self.old sheet.old result self.new sheet.new }
     {
         match self.tables.asked_for(sheet.len(), badge, lot, right, units) {
             Ok(access) => self.decide(sheet, &access),
@@ -41,9 +39,7 @@ impl<R: Rule, O: Order, P: Purse> Monitor<R, O, P> {
 
     /// Units are used of an open access.
     pub fn use_units(&mut self, sheet: &mut [Line], serial: u32, units: u32) -> Answer
-        ensures step { Answered (step (policy_by R.Rule.opening R.Rule.staying O.Order.before self.old) (state_by P.Purse.books self.old) (length sheet.old) (Use serial units)) result (state_by P.Purse.books self.new) sheet.old sheet.new }
-        ensures rule { self.new.rule ≡ self.old.rule }
-        ensures order { self.new.order ≡ self.old.order }
+        ensures { Steps R.Rule.opening R.Rule.staying O.Order.before P.Purse.books (Use serial units) self.old sheet.old result self.new sheet.new }
     {
         let returned = self.tables.use_units(sheet.len(), serial, units);
         self.finish(sheet, returned)
@@ -51,9 +47,7 @@ impl<R: Rule, O: Order, P: Purse> Monitor<R, O, P> {
 
     /// The duty of an open access is done.
     pub fn duty(&mut self, sheet: &mut [Line], serial: u32) -> Answer
-        ensures step { Answered (step (policy_by R.Rule.opening R.Rule.staying O.Order.before self.old) (state_by P.Purse.books self.old) (length sheet.old) (Duty serial)) result (state_by P.Purse.books self.new) sheet.old sheet.new }
-        ensures rule { self.new.rule ≡ self.old.rule }
-        ensures order { self.new.order ≡ self.old.order }
+        ensures { Steps R.Rule.opening R.Rule.staying O.Order.before P.Purse.books (Duty serial) self.old sheet.old result self.new sheet.new }
     {
         let returned = self.tables.duty(sheet.len(), serial);
         self.finish(sheet, returned)
@@ -61,9 +55,7 @@ impl<R: Rule, O: Order, P: Purse> Monitor<R, O, P> {
 
     /// An open access is ended.
     pub fn end(&mut self, sheet: &mut [Line], serial: u32) -> Answer
-        ensures step { Answered (step (policy_by R.Rule.opening R.Rule.staying O.Order.before self.old) (state_by P.Purse.books self.old) (length sheet.old) (End serial)) result (state_by P.Purse.books self.new) sheet.old sheet.new }
-        ensures rule { self.new.rule ≡ self.old.rule }
-        ensures order { self.new.order ≡ self.old.order }
+        ensures { Steps R.Rule.opening R.Rule.staying O.Order.before P.Purse.books (End serial) self.old sheet.old result self.new sheet.new }
     {
         match self.tables.named(sheet.len(), serial) {
             Ok(access) => self.end_access(sheet, &access),
@@ -73,9 +65,7 @@ impl<R: Rule, O: Order, P: Purse> Monitor<R, O, P> {
 
     /// Time goes on by some minutes.
     pub fn time(&mut self, sheet: &mut [Line], minutes: u32) -> Answer
-        ensures step { Answered (step (policy_by R.Rule.opening R.Rule.staying O.Order.before self.old) (state_by P.Purse.books self.old) (length sheet.old) (Time minutes)) result (state_by P.Purse.books self.new) sheet.old sheet.new }
-        ensures rule { self.new.rule ≡ self.old.rule }
-        ensures order { self.new.order ≡ self.old.order }
+        ensures { Steps R.Rule.opening R.Rule.staying O.Order.before P.Purse.books (Time minutes) self.old sheet.old result self.new sheet.new }
     {
         let returned = self.tables.time(sheet.len(), minutes);
         self.finish(sheet, returned)
@@ -83,9 +73,7 @@ impl<R: Rule, O: Order, P: Purse> Monitor<R, O, P> {
 
     /// The room has a temperature, in tenths of a degree Celsius, and a phase.
     pub fn room(&mut self, sheet: &mut [Line], temperature: i64, phase: u32) -> Answer
-        ensures step { Answered (step (policy_by R.Rule.opening R.Rule.staying O.Order.before self.old) (state_by P.Purse.books self.old) (length sheet.old) (SetRoom temperature phase)) result (state_by P.Purse.books self.new) sheet.old sheet.new }
-        ensures rule { self.new.rule ≡ self.old.rule }
-        ensures order { self.new.order ≡ self.old.order }
+        ensures { Steps R.Rule.opening R.Rule.staying O.Order.before P.Purse.books (SetRoom temperature phase) self.old sheet.old result self.new sheet.new }
     {
         let returned = self.tables.set_room(sheet.len(), temperature, phase);
         self.finish(sheet, returned)
@@ -93,12 +81,10 @@ impl<R: Rule, O: Order, P: Purse> Monitor<R, O, P> {
 
     /// An account is granted an amount.
     pub fn grant(&mut self, sheet: &mut [Line], account: u32, amount: u32) -> Answer
-        ensures step { Answered (step (policy_by R.Rule.opening R.Rule.staying O.Order.before self.old) (state_by P.Purse.books self.old) (length sheet.old) (Grant account amount)) result (state_by P.Purse.books self.new) sheet.old sheet.new }
-        ensures rule { self.new.rule ≡ self.old.rule }
-        ensures order { self.new.order ≡ self.old.order }
+        ensures { Steps R.Rule.opening R.Rule.staying O.Order.before P.Purse.books (Grant account amount) self.old sheet.old result self.new sheet.new }
     {
         if sheet.len() < 65 {
-            return refused(Returned::ShortSheet);
+            return refused(Refusal::ShortSheet);
         }
         let returned = self.purse.add(account, amount);
         self.finish(sheet, returned)
@@ -113,9 +99,7 @@ impl<R: Rule, O: Order, P: Purse> Monitor<R, O, P> {
         role: u32,
         account: u32,
     ) -> Answer
-        ensures step { Answered (step (policy_by R.Rule.opening R.Rule.staying O.Order.before self.old) (state_by P.Purse.books self.old) (length sheet.old) (SetBadge number level role account)) result (state_by P.Purse.books self.new) sheet.old sheet.new }
-        ensures rule { self.new.rule ≡ self.old.rule }
-        ensures order { self.new.order ≡ self.old.order }
+        ensures { Steps R.Rule.opening R.Rule.staying O.Order.before P.Purse.books (SetBadge number level role account) self.old sheet.old result self.new sheet.new }
     {
         let returned = self
             .tables
@@ -134,9 +118,7 @@ impl<R: Rule, O: Order, P: Purse> Monitor<R, O, P> {
         limit: u32,
         prices: [u32; 4],
     ) -> Answer
-        ensures step { Answered (step (policy_by R.Rule.opening R.Rule.staying O.Order.before self.old) (state_by P.Purse.books self.old) (length sheet.old) (SetLot code level role stop limit prices)) result (state_by P.Purse.books self.new) sheet.old sheet.new }
-        ensures rule { self.new.rule ≡ self.old.rule }
-        ensures order { self.new.order ≡ self.old.order }
+        ensures { Steps R.Rule.opening R.Rule.staying O.Order.before P.Purse.books (SetLot code level role stop limit prices) self.old sheet.old result self.new sheet.new }
     {
         let returned = self
             .tables
@@ -146,9 +128,7 @@ impl<R: Rule, O: Order, P: Purse> Monitor<R, O, P> {
 
     /// The badge of a number goes out.
     pub fn drop_badge(&mut self, sheet: &mut [Line], number: u32) -> Answer
-        ensures step { Answered (step (policy_by R.Rule.opening R.Rule.staying O.Order.before self.old) (state_by P.Purse.books self.old) (length sheet.old) (DropBadge number)) result (state_by P.Purse.books self.new) sheet.old sheet.new }
-        ensures rule { self.new.rule ≡ self.old.rule }
-        ensures order { self.new.order ≡ self.old.order }
+        ensures { Steps R.Rule.opening R.Rule.staying O.Order.before P.Purse.books (DropBadge number) self.old sheet.old result self.new sheet.new }
     {
         let returned = self.tables.drop_badge(sheet.len(), number);
         self.finish(sheet, returned)
@@ -156,9 +136,7 @@ impl<R: Rule, O: Order, P: Purse> Monitor<R, O, P> {
 
     /// The lot of a code goes out.
     pub fn drop_lot(&mut self, sheet: &mut [Line], code: [u8; 8]) -> Answer
-        ensures step { Answered (step (policy_by R.Rule.opening R.Rule.staying O.Order.before self.old) (state_by P.Purse.books self.old) (length sheet.old) (DropLot code)) result (state_by P.Purse.books self.new) sheet.old sheet.new }
-        ensures rule { self.new.rule ≡ self.old.rule }
-        ensures order { self.new.order ≡ self.old.order }
+        ensures { Steps R.Rule.opening R.Rule.staying O.Order.before P.Purse.books (DropLot code) self.old sheet.old result self.new sheet.new }
     {
         let returned = self.tables.drop_lot(sheet.len(), code);
         self.finish(sheet, returned)
@@ -167,18 +145,14 @@ impl<R: Rule, O: Order, P: Purse> Monitor<R, O, P> {
     /// Any call. It reports its staying questions by the formula, writes at most 65 lines and leaves at most 64 accesses
     /// open.
     pub fn apply(&mut self, sheet: &mut [Line], call: Call) -> Answer
-        ensures step { Answered (step (policy_by R.Rule.opening R.Rule.staying O.Order.before self.old) (state_by P.Purse.books self.old) (length sheet.old) call) result (state_by P.Purse.books self.new) sheet.old sheet.new }
+        ensures step { Steps R.Rule.opening R.Rule.staying O.Order.before P.Purse.books call self.old sheet.old result self.new sheet.new }
         ensures reported { Reported (step (policy_by R.Rule.opening R.Rule.staying O.Order.before self.old) (state_by P.Purse.books self.old) (length sheet.old) call) }
-        ensures rule { self.new.rule ≡ self.old.rule }
-        ensures order { self.new.order ≡ self.old.order }
     {
         self.call(sheet, call)
     }
 
     fn call(&mut self, sheet: &mut [Line], call: Call) -> Answer
-        ensures step { Answered (step (policy_by R.Rule.opening R.Rule.staying O.Order.before self.old) (state_by P.Purse.books self.old) (length sheet.old) call) result (state_by P.Purse.books self.new) sheet.old sheet.new }
-        ensures rule { self.new.rule ≡ self.old.rule }
-        ensures order { self.new.order ≡ self.old.order }
+        ensures { Steps R.Rule.opening R.Rule.staying O.Order.before P.Purse.books call self.old sheet.old result self.new sheet.new }
     {
         match call {
             Call::Open {
@@ -214,47 +188,36 @@ impl<R: Rule, O: Order, P: Purse> Monitor<R, O, P> {
 
     // The opening question is put, then the purse holds, and the access is opened.
     fn decide(&mut self, sheet: &mut [Line], access: &Access) -> Answer
-        requires room { 65 ≤ length sheet.old }
-        requires place { length (state_by P.Purse.books self.old).scene.accesses < 64 }
-        requires serial { self.old.tables.next_serial ≤ 1000000000 }
-        requires next { access.now.serial ≡ self.old.tables.next_serial }
-        requires lot { some (is_lot access.now.lot) (scene_of self.old.tables).lots ≡ true }
-        ensures step { Answered (unless_denied (open_denial (policy_by R.Rule.opening R.Rule.staying O.Order.before self.old) (state_by P.Purse.books self.old) access.now) (state_by P.Purse.books self.old) (accepted access.now.serial (opening_line Opened access.now.serial (state_by P.Purse.books self.old).scene.room.clock 0 access.now ∷ []) (sweep (policy_by R.Rule.opening R.Rule.staying O.Order.before self.old) (opened access.now (state_by P.Purse.books self.old))))) result (state_by P.Purse.books self.new) sheet.old sheet.new }
-        ensures rule { self.new.rule ≡ self.old.rule }
-        ensures order { self.new.order ≡ self.old.order }
+        requires { CanOpen access.now (state_by P.Purse.books self.old) sheet.old }
+        ensures { Makes P.Purse.books (unless_denied (open_denial (policy_by R.Rule.opening R.Rule.staying O.Order.before self.old) (state_by P.Purse.books self.old) access.now) (state_by P.Purse.books self.old) (accepted access.now.serial (opening_line Opened access.now.serial (state_by P.Purse.books self.old).scene.room.clock 0 access.now ∷ []) (sweep (policy_by R.Rule.opening R.Rule.staying O.Order.before self.old) (opened access.now (state_by P.Purse.books self.old))))) self.old sheet.old result self.new sheet.new }
     {
         let minute = self.tables.room().clock;
-        let answer = self.rule.ask_opening(&self.tables.situation(access));
-        if answer != 0 {
-            sheet[0] = opening_line(Kind::Denied, 0, minute, u16::from(answer), access);
-            return denied(Returned::QuestionFails);
+        if let Err(failed) = self.policy.rule.ask_opening(&self.tables.situation(access)) {
+            sheet[0] = opening_line(Kind::Denied, 0, minute, u16::from(failed.0.get()), access);
+            return denied(Refusal::QuestionFails);
         }
-        match self.purse.hold(u32::from(access.account), hold_of(access)) {
-            Returned::Accepted => self.admit(sheet, access),
-            _ => {
-                sheet[0] = opening_line(Kind::Denied, 0, minute, 256, access);
-                denied(Returned::CreditShort)
-            }
+        if self
+            .purse
+            .hold(u32::from(access.account), hold_of(access))
+            .is_err()
+        {
+            sheet[0] = opening_line(Kind::Denied, 0, minute, 256, access);
+            return denied(Refusal::CreditShort);
         }
+        self.admit(sheet, access)
     }
 
     // An access whose hold is held is opened.
     fn admit(&mut self, sheet: &mut [Line], access: &Access) -> Answer
-        requires room { 65 ≤ length sheet.old }
-        requires place { length (state_by P.Purse.books self.old).scene.accesses < 64 }
-        requires serial { self.old.tables.next_serial ≤ 1000000000 }
-        requires next { access.now.serial ≡ self.old.tables.next_serial }
-        requires lot { some (is_lot access.now.lot) (scene_of self.old.tables).lots ≡ true }
-        ensures step { Answered (accepted access.now.serial (opening_line Opened access.now.serial (state_by P.Purse.books self.old).scene.room.clock 0 access.now ∷ []) (sweep (policy_by R.Rule.opening R.Rule.staying O.Order.before self.old) (entered_under access.now (state_by P.Purse.books self.old)))) result (state_by P.Purse.books self.new) sheet.old sheet.new }
-        ensures rule { self.new.rule ≡ self.old.rule }
-        ensures order { self.new.order ≡ self.old.order }
+        requires { CanOpen access.now (state_by P.Purse.books self.old) sheet.old }
+        ensures { Makes P.Purse.books (accepted access.now.serial (opening_line Opened access.now.serial (state_by P.Purse.books self.old).scene.room.clock 0 access.now ∷ []) (sweep (policy_by R.Rule.opening R.Rule.staying O.Order.before self.old) (entered_under access.now (state_by P.Purse.books self.old)))) self.old sheet.old result self.new sheet.new }
     {
         let minute = self.tables.room().clock;
         sheet[0] = opening_line(Kind::Opened, access.serial, minute, 0, access);
         let _ = self.tables.enter(access);
         let (lines, questions) = self.sweep(sheet, 1);
         Answer {
-            returned: Returned::Accepted,
+            returned: Ok(()),
             lines: lines + 1,
             serial: access.serial,
             questions,
@@ -265,16 +228,14 @@ impl<R: Rule, O: Order, P: Purse> Monitor<R, O, P> {
     fn end_access(&mut self, sheet: &mut [Line], access: &Access) -> Answer
         requires room { 65 ≤ length sheet.old }
         requires open_now { first (is_access access.now.serial) (scene_of self.old.tables).accesses ≡ Some access.now }
-        ensures step { Answered (accepted 0 (closing_line Ended (state_by P.Purse.books self.old).scene.room.clock 0 access.now ∷ []) (sweep (policy_by R.Rule.opening R.Rule.staying O.Order.before self.old) (close access.now (state_by P.Purse.books self.old)))) result (state_by P.Purse.books self.new) sheet.old sheet.new }
-        ensures rule { self.new.rule ≡ self.old.rule }
-        ensures order { self.new.order ≡ self.old.order }
+        ensures { Makes P.Purse.books (accepted 0 (closing_line Ended (state_by P.Purse.books self.old).scene.room.clock 0 access.now ∷ []) (sweep (policy_by R.Rule.opening R.Rule.staying O.Order.before self.old) (close access.now (state_by P.Purse.books self.old)))) self.old sheet.old result self.new sheet.new }
     {
         let minute = self.tables.room().clock;
         sheet[0] = closing_line(Kind::Ended, minute, 0, access);
         self.close(access);
         let (lines, questions) = self.sweep(sheet, 1);
         Answer {
-            returned: Returned::Accepted,
+            returned: Ok(()),
             lines: lines + 1,
             serial: 0,
             questions,
@@ -282,14 +243,12 @@ impl<R: Rule, O: Order, P: Purse> Monitor<R, O, P> {
     }
 
     // The rest of a call that writes no line of its own: where it was accepted, it sweeps.
-    fn finish(&mut self, sheet: &mut [Line], returned: Returned) -> Answer
+    fn finish(&mut self, sheet: &mut [Line], returned: Result<(), Refusal>) -> Answer
         requires { returned_number returned ≡ 0 → 65 ≤ length sheet.old }
-        ensures step { Answered (unless_refused (returned_number returned) (state_by P.Purse.books self.old) (accepted 0 [] (sweep (policy_by R.Rule.opening R.Rule.staying O.Order.before self.old) (state_by P.Purse.books self.old)))) result (state_by P.Purse.books self.new) sheet.old sheet.new }
-        ensures rule { self.new.rule ≡ self.old.rule }
-        ensures order { self.new.order ≡ self.old.order }
+        ensures { Makes P.Purse.books (unless_refused (returned_number returned) (state_by P.Purse.books self.old) (accepted 0 [] (sweep (policy_by R.Rule.opening R.Rule.staying O.Order.before self.old) (state_by P.Purse.books self.old)))) self.old sheet.old result self.new sheet.new }
     {
         match returned {
-            Returned::Accepted => {
+            Ok(()) => {
                 let (lines, questions) = self.sweep(sheet, 0);
                 Answer {
                     returned,
@@ -298,17 +257,17 @@ impl<R: Rule, O: Order, P: Purse> Monitor<R, O, P> {
                     questions,
                 }
             }
-            refusal => refused(refusal),
+            Err(refusal) => refused(refusal),
         }
     }
 }
 
 // What a call answers that is refused: it writes nothing.
-fn refused(returned: Returned) -> Answer
-    ensures { result ≡ record { returned = returned; lines = 0; serial = 0; questions = 0 } }
+fn refused(refusal: Refusal) -> Answer
+    ensures { result ≡ record { returned = Err refusal; lines = 0; serial = 0; questions = 0 } }
 {
     Answer {
-        returned,
+        returned: Err(refusal),
         lines: 0,
         serial: 0,
         questions: 0,
@@ -316,11 +275,11 @@ fn refused(returned: Returned) -> Answer
 }
 
 // What an open answers that is denied: it writes one line.
-fn denied(returned: Returned) -> Answer
-    ensures { result ≡ record { returned = returned; lines = 1; serial = 0; questions = 0 } }
+fn denied(refusal: Refusal) -> Answer
+    ensures { result ≡ record { returned = Err refusal; lines = 1; serial = 0; questions = 0 } }
 {
     Answer {
-        returned,
+        returned: Err(refusal),
         lines: 1,
         serial: 0,
         questions: 0,

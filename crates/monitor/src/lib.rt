@@ -11,7 +11,7 @@ ghost use Rattle.register.specs.Lists.{first};
 ghost use Rattle.machine.specs.State.{is_access};
 ghost use Rattle.monitor.specs.Answered.{policy_by, state_by, SweptBy};
 
-use crate::sweep::first_failing;
+use crate::policy::Policy;
 use records::{Access, Badge, Kind, Line, Lot};
 use tables::line::{charge_of, closing_line, hold_of};
 use tables::table::Tables;
@@ -21,13 +21,12 @@ use usage::purse::Purse;
 use usage::rule::Rule;
 
 pub mod call;
-mod sweep;
+mod policy;
 
 /// A monitor over a rule, an order of revocation and a purse.
 #[derive(Drop)]
 pub struct Monitor<R, O, P> {
-    rule: R,
-    order: O,
+    policy: Policy<R, O>,
     purse: P,
     tables: Tables,
 }
@@ -43,17 +42,14 @@ impl<R: Rule + Drop, O: Order + Drop, P: Purse + Drop> Monitor<R, O, P> {
         order: O,
         purse: P,
     ) -> Result<Monitor<R, O, P>, Unmade>
-        ensures { MatchResult result (λ m. (first_applying (maker_checks first_serial badges.now lots.now) ≡ 0) × Made first_serial badges.now lots.now m.tables × (m.rule ≡ rule) × (m.order ≡ order) × (m.purse ≡ purse)) (λ e. unmade_number e ≡ first_applying (maker_checks first_serial badges.now lots.now)) }
+        ensures { MatchResult result (λ m. (first_applying (maker_checks first_serial badges.now lots.now) ≡ 0) × Made first_serial badges.now lots.now m.tables × (m.policy.rule ≡ rule) × (m.policy.order ≡ order) × (m.purse ≡ purse)) (λ e. unmade_number e ≡ first_applying (maker_checks first_serial badges.now lots.now)) }
     {
-        match Tables::new(first_serial, badges, lots) {
-            Ok(tables) => Ok(Monitor {
-                rule,
-                order,
-                purse,
-                tables,
-            }),
-            Err(refusal) => Err(refusal),
-        }
+        let tables = Tables::new(first_serial, badges, lots)?;
+        Ok(Monitor {
+            policy: Policy { rule, order },
+            purse,
+            tables,
+        })
     }
 }
 
@@ -76,8 +72,7 @@ impl<R: Rule, O: Order, P: Purse> Monitor<R, O, P> {
     fn close(&mut self, access: &Access)
         requires { first (is_access access.now.serial) (scene_of self.old.tables).accesses ≡ Some access.now }
         ensures state { state_by P.Purse.books self.new ≡ close access.now (state_by P.Purse.books self.old) }
-        ensures rule { self.new.rule ≡ self.old.rule }
-        ensures order { self.new.order ≡ self.old.order }
+        ensures policy { self.new.policy ≡ self.old.policy }
     {
         self.tables.strike(access.serial);
         let _ = self.purse.settle(
@@ -94,17 +89,11 @@ impl<R: Rule, O: Order, P: Purse> Monitor<R, O, P> {
         ensures swept { SweptBy (sweep (policy_by R.Rule.opening R.Rule.staying O.Order.before self.old) (state_by P.Purse.books self.old)) from result (state_by P.Purse.books self.new) sheet.old sheet.new }
         ensures formula { result.1 ≡ questions_of (length (state_by P.Purse.books self.old).scene.accesses) result.0 }
         ensures few { result.0 ≤ 64 }
-        ensures rule { self.new.rule ≡ self.old.rule }
-        ensures order { self.new.order ≡ self.old.order }
+        ensures policy { self.new.policy ≡ self.old.policy }
     {
         let mut lines = 0;
         let mut questions = 0;
-        while let Some(failing) = first_failing(
-            &self.rule,
-            &self.order,
-            &self.tables,
-            &mut questions,
-        ) {
+        while let Some(failing) = self.policy.first_failing(&self.tables, &mut questions) {
             let minute = self.tables.room().clock;
             sheet[from + lines as usize] = closing_line(
                 Kind::Revoked,

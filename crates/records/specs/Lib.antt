@@ -1,3 +1,4 @@
 pub mod Numbers
 pub mod Ranges
 pub mod Parts
+pub mod Texts

@@ -4,6 +4,7 @@
 use register::key::Keyed;
 
 pub mod number;
+mod text;
 
 /// What an access is for.
 #[derive(Clone, Copy, PartialEq, Eq, Debug)]

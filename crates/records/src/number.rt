@@ -116,6 +116,6 @@ impl From<Full> for Refusal {
     ghost from_gives = { λ _ refusal. refusal ≡ RegisterFull };
 
     fn from(_full: Full) -> Refusal {
-        Refusal::RegisterFull
+        Self::RegisterFull
     }
 }

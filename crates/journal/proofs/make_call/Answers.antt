@@ -16,7 +16,7 @@ returns g c =
     let after : State = state_by g.P.Purse.books c.apply-answer.new.self in
     let answered : Answered (step p s 65 c.args.call) c.apply-answer.result after c.deref_mut.result.now c.apply-answer.new.sheet =
     subst (λ (n : ℕ). Answered (step p s n c.args.call) c.apply-answer.result after c.deref_mut.result.now c.apply-answer.new.sheet)
-    (c.deref_mut.ensures.len ∙ c.in_ok-lines.ensures.len) c.apply-answer.ensures.step in
+    (c.deref_mut.ensures.len ∙ c.in_ok-lines.ensures.len) c.apply-answer.ensures.step.step in
     let cut : vec_items c.truncate.new.self ≡ take c.apply-answer.result.lines (vec_items (with_items c.in_ok-lines.lines c.apply-answer.new.sheet)) =
     c.truncate.ensures.items in
     let whole : vec_items (with_items c.in_ok-lines.lines c.apply-answer.new.sheet) ≡ c.apply-answer.new.sheet =
@@ -24,6 +24,5 @@ returns g c =
     let entry : Entry = record { call = c.args.call; answer = c.apply-answer.result; lines = c.truncate.new.self } in
     record {
       made = (made_entry c.args.call (step p s 65 c.args.call) entry after c.deref_mut.result.now c.apply-answer.new.sheet refl answered (cut ∙ ap (take c.apply-answer.result.lines) whole), answered.state);
-      rule = c.apply-answer.ensures.rule;
-      order = c.apply-answer.ensures.order;
+      policy = c.apply-answer.ensures.step.policy;
     }

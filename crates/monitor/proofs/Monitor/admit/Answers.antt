@@ -30,6 +30,5 @@ returns g c =
       step = line_call p (entered_under c.args.access.now s) t c.args.access.now.serial _ c.opening_line.result c.sweep-lines.result
           (state_by g.P.Purse.books c.sweep-lines.new.self) c.args.sheet.now c.sweep-lines.new.sheet
           (omega (arith, c.requires.room)) moved line c.sweep-lines.ensures.swept;
-      rule = c.sweep-lines.ensures.rule;
-      order = c.sweep-lines.ensures.order;
+      policy = c.sweep-lines.ensures.policy;
     }

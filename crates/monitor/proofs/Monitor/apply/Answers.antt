@@ -1,4 +1,4 @@
-use Rattle.std.proofs.Common.{length, arith, length-take}
+use Rattle.std.proofs.Common.{length}
 use Rattle.machine.specs.State.{Policy, State}
 use Rattle.machine.proofs.Reporting.{reported}
 use Rattle.monitor.specs.Answered.{policy_by, state_by}
@@ -9,9 +9,7 @@ returns g c =
     let p : Policy = policy_by g.R.Rule.opening g.R.Rule.staying g.O.Order.before c.args.self.now in
     let s : State = state_by g.P.Purse.books c.args.self.now in
     record {
-      step = c.call.ensures.step;
+      step = c.call.ensures;
       reported = reported p s (length c.args.sheet.now) c.args.call
-          (omega (arith, length-take c.args.self.now.tables.access_count c.args.self.now.tables.accesses, c.args.self.now.tables.accesses_fit));
-      rule = c.call.ensures.rule;
-      order = c.call.ensures.order;
+          c.args.self.now.tables.accesses_fit;
     }

@@ -12,6 +12,5 @@ returns-in-SetLot g c =
     record {
       step = subst (λ (call : Call). Answered (step p s (length c.args.sheet.now) call) c.set_lot.result (state_by g.P.Purse.books c.set_lot.new.self)
           c.args.sheet.now c.set_lot.new.sheet) (sym c.in-SetLot.is) c.set_lot.ensures.step;
-      rule = c.set_lot.ensures.rule;
-      order = c.set_lot.ensures.order;
+      policy = c.set_lot.ensures.policy;
     }

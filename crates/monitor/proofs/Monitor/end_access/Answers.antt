@@ -17,11 +17,10 @@ returns g c =
     let line : c.closing_line.result ≡ closing_line Ended s.scene.room.clock 0 c.args.access.now =
     c.closing_line.ensures ∙ ap (λ r. closing_line Ended r.clock 0 c.args.access.now) c.room-minute.ensures in
     let same : policy_by g.R.Rule.opening g.R.Rule.staying g.O.Order.before c.close.new.self ≡ p =
-    same_policy g.R.Rule.opening g.R.Rule.staying g.O.Order.before _ _ _ _ c.close.ensures.rule c.close.ensures.order in
+    same_policy g.R.Rule.opening g.R.Rule.staying g.O.Order.before c.close.new.self c.args.self.now c.close.ensures.policy in
     record {
       step = line_call p (close c.args.access.now s) t 0 (closing_line Ended s.scene.room.clock 0 c.args.access.now) c.closing_line.result c.sweep-lines.result
           after c.args.sheet.now c.sweep-lines.new.sheet (omega (arith, c.requires.room)) c.close.ensures.state line
           (subst (λ (q : Policy). SweptBy (sweep q t) 1 c.sweep-lines.result after (set c.args.sheet.now 0 c.closing_line.result) c.sweep-lines.new.sheet) same c.sweep-lines.ensures.swept);
-      rule = c.sweep-lines.ensures.rule ∙ c.close.ensures.rule;
-      order = c.sweep-lines.ensures.order ∙ c.close.ensures.order;
+      policy = c.sweep-lines.ensures.policy ∙ c.close.ensures.policy;
     }

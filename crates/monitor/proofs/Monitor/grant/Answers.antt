@@ -15,6 +15,5 @@ returns g c =
       step = grant_call p s c.args.account c.args.amount (returned_number c.add-returned.result) (length c.args.sheet.now) (g.P.Purse.books c.add-returned.new.self)
           c.finish.result (state_by g.P.Purse.books c.finish.new.self) c.args.sheet.now c.finish.new.sheet
           long c.add-returned.ensures.returned c.add-returned.ensures.leaves c.finish.ensures.step;
-      rule = c.finish.ensures.rule;
-      order = c.finish.ensures.order;
+      policy = c.finish.ensures.policy;
     }

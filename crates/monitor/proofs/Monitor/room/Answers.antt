@@ -24,6 +24,5 @@ returns g c =
           (scene_call p s (room_scene passed c.args.phase s.scene) (scene_of c.set_room-returned.new.self) c.set_room-returned.new.self.next_serial
           (returned_number c.set_room-returned.result) (first_applying (room_checks (length c.args.sheet.now) passed c.args.phase)) c.finish.result after c.args.sheet.now
           c.finish.new.sheet c.set_room-returned.ensures.returned c.set_room-returned.ensures.scene c.set_room-returned.ensures.serial c.finish.ensures.step);
-      rule = c.finish.ensures.rule;
-      order = c.finish.ensures.order;
+      policy = c.finish.ensures.policy;
     }

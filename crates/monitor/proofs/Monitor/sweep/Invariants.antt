@@ -4,11 +4,10 @@ use Rattle.monitor.specs.Answered.{policy_by, state_by}
 use Rattle.monitor.proofs.Sweeping.{Underway}
 use Rattle.monitor.proofs.Monitor.sweep.Given as goal
 
--- the rule and the order are those at the start, and the sweep is under way
+-- the policy is that at the start, and the sweep is under way
 abbrev pub invariant-loop-failing : goal.invariant-loop-failing
 invariant-loop-failing g l =
-    (l.self.rule ≡ l.initial.self.rule)
-    × (l.self.order ≡ l.initial.self.order)
+    (l.self.policy ≡ l.initial.self.policy)
     × Underway (policy_by g.R.Rule.opening g.R.Rule.staying g.O.Order.before l.initial.self)
     (state_by g.P.Purse.books l.initial.self)
     (state_by g.P.Purse.books l.self)

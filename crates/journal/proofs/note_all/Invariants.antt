@@ -1,14 +1,13 @@
 -- What holds while calls are made. Assumes nothing.
 use Rattle.std.proofs.Common.{◌≡◌, vec_items}
 use Rattle.monitor.specs.Answered.{policy_by, state_by}
-use Rattle.journal.proofs.Noting.{NotedTo}
-use Rattle.journal.proofs.run.Given as goal
+use Rattle.journal.specs.Notes.{NotedTo}
+use Rattle.journal.proofs.note_all.Given as goal
 
--- the rule and the order are those at the start, and each call so far was noted
+-- the policy is that at the start, and each call so far was noted
 abbrev pub invariant-loop-call : goal.invariant-loop-call
 invariant-loop-call g l =
-    (l.monitor.rule ≡ l.initial.monitor.rule)
-    × (l.monitor.order ≡ l.initial.monitor.order)
+    (l.monitor.policy ≡ l.initial.monitor.policy)
     × NotedTo (policy_by g.R.Rule.opening g.R.Rule.staying g.O.Order.before l.initial.monitor)
     (state_by g.P.Purse.books l.initial.monitor)
     l.calls l.call-index (vec_items l.entries) (state_by g.P.Purse.books l.monitor)

@@ -5,7 +5,7 @@ ghost use Rattle.grid.specs.Grid.{badge_of, wanted, answer_at, row_of, rows_of, 
 
 use records::{Access, Badge, Lot, Phase, Right, Room, Situation};
 use std::array;
-use usage::rule::Rule;
+use usage::rule::{Rule, answer_number};
 
 /// How many levels there are, and how many roles.
 pub const SIDE: usize = 16;
@@ -52,7 +52,7 @@ pub fn answer_at<R: Rule>(rule: &R, lot: &Lot, right: Right, level: u8, role: u8
         },
         access: wanted(lot, right),
     };
-    rule.ask_opening(&situation)
+    answer_number(rule.ask_opening(&situation))
 }
 
 // The badge of a level and a role.

@@ -10,7 +10,7 @@ use std::alloc::{AllocError, Global};
 use std::error::Error;
 use std::fmt;
 use usage::rule::layer::Both;
-use usage::rule::leaf::{Level, Role};
+use usage::rule::leaf::{Leaf, Level, Role};
 
 /// Why there is no text.
 #[derive(Clone, Copy, PartialEq, Eq, Debug)]
@@ -74,7 +74,7 @@ pub fn profile(level: u8, role: u8) -> Result<Grid, Wrong>
     if role > 15 {
         return Err(Wrong::BadRole);
     }
-    let rule = Both::new(Level::new(1).unwrap(), Role::new(2).unwrap());
+    let rule = Both::new(Leaf::new(1, Level).unwrap(), Leaf::new(2, Role).unwrap());
     Ok(Grid::new(&rule, &plain_lot(level, role), Right::Read))
 }
 

@@ -10,7 +10,7 @@ mod tests {
     use std::alloc::{AllocError, Global};
     use std::test::Fail;
     use usage::rule::layer::Both;
-    use usage::rule::leaf::{Level, Role, Stop};
+    use usage::rule::leaf::{Leaf, Level, Role, Stop};
 
     // A lot of level 5 that wants role 13.
     fn lot(stop: bool) -> Lot {
@@ -27,7 +27,7 @@ mod tests {
 
     #[test]
     fn cells_are_answers(rt: HostRuntime) {
-        let rule = Both::new(Level::new(1).unwrap(), Role::new(2).unwrap());
+        let rule = Both::new(Leaf::new(1, Level).unwrap(), Leaf::new(2, Role).unwrap());
         let lot = lot(false);
         let cells = [
             (5, 13, 0),
@@ -48,7 +48,7 @@ mod tests {
             assert_eq!(rt; profile(level, role)?.passing, passing);
         }
         for (stop, passing) in [(false, 256), (true, 0)] {
-            let rule = Stop::new(3).unwrap();
+            let rule = Leaf::new(3, Stop).unwrap();
             assert_eq!(rt; Grid::new(&rule, &lot(stop), Right::Read).passing, passing);
         }
         Ok(())

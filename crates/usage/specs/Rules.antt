@@ -1,9 +1,16 @@
 -- What the rules answer of a situation: 0 for pass, else the number of the rule that fails. Assumes nothing.
-use Rattle.std.specs.Prelude.{ℕ, ◌-◌, Bool, cond, not, ◌&&◌, ℤ, ◌==◌, int_le, nat_le}
+use Rattle.std.specs.Prelude.{ℕ, ◌-◌, Bool, cond, not, ◌&&◌, Ok, Err, Result, ℤ, ◌==◌, int_le, nat_le}
+use Rattle.std.specs.Int.NonZero.{non_zero_u8_get}
 use Rattle.records.specs.declared.Situation.{Situation}
 use Rattle.records.specs.declared.Right.{Right}
 use Rattle.records.specs.Numbers.{same_right, phase_number}
 use Rattle.usage.specs.Roles.{at_or_above}
+use Rattle.usage.specs.declared.rule.Failed.{Failed}
+
+-- the number that stands for an answer
+abbrev pub answer_number : Result (Unit {0}) Failed → ℕ
+answer_number (Ok _) = 0
+answer_number (Err failed) = non_zero_u8_get failed.0
 
 abbrev pub answer : Bool → ℕ → ℕ
 answer passes number = cond passes 0 number

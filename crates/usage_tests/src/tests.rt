@@ -1,6 +1,6 @@
 //! A situation in which every rule passes, for the tests to alter.
 use records::{Access, Badge, Lot, Phase, Right, Room, Situation};
-use usage::rule::Rule;
+use usage::rule::{Rule, answer_number};
 
 mod layers;
 mod leaves;
@@ -54,7 +54,10 @@ fn access(serial: u32) -> Access {
     }
 }
 
-// A rule's answers to the opening and the staying question.
+// The numbers of a rule's answers to the opening and the staying question.
 fn answers<R: Rule>(rule: &R, s: &Situation) -> (u8, u8) {
-    (rule.ask_opening(s), rule.ask_staying(s))
+    (
+        answer_number(rule.ask_opening(s)),
+        answer_number(rule.ask_staying(s)),
+    )
 }

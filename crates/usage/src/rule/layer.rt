@@ -4,7 +4,7 @@ ghost use Rattle.records.specs.Numbers.{right_of, same_right};
 ghost use Rattle.records.specs.declared.Refusal.TheVariants.{OutOfRange};
 ghost use Rattle.usage.specs.Rules.{both_answer, for_answer};
 
-use crate::rule::Rule;
+use crate::rule::{Failed, Rule};
 use records::{Refusal, Right, Situation};
 
 /// Answers its first part's failure, else its second part's answer.
@@ -28,22 +28,18 @@ impl<A: Rule, B: Rule> Rule for Both<A, B> {
 
     ghost staying = { λ rule s. both_answer (A.Rule.staying rule.first s) (B.Rule.staying rule.second s) };
 
-    fn ask_opening(&self, s: &Situation) -> u8 {
-        match self.first.ask_opening(s) {
-            0 => self.second.ask_opening(s),
-            failure => failure,
-        }
+    fn ask_opening(&self, s: &Situation) -> Result<(), Failed> {
+        self.first.ask_opening(s)?;
+        self.second.ask_opening(s)
     }
 
-    fn ask_staying(&self, s: &Situation) -> u8 {
-        match self.first.ask_staying(s) {
-            0 => self.second.ask_staying(s),
-            failure => failure,
-        }
+    fn ask_staying(&self, s: &Situation) -> Result<(), Failed> {
+        self.first.ask_staying(s)?;
+        self.second.ask_staying(s)
     }
 }
 
-/// Asks its part under one right, and answers 0 under the others.
+/// Asks its part under one right, and passes under the others.
 #[derive(Clone, Copy, Drop)]
 pub struct For<R> {
     right: Right,
@@ -74,19 +70,19 @@ impl<R: Rule> Rule for For<R> {
 
     ghost staying = { λ rule s. for_answer rule.right s (R.Rule.staying rule.part s) };
 
-    fn ask_opening(&self, s: &Situation) -> u8 {
+    fn ask_opening(&self, s: &Situation) -> Result<(), Failed> {
         if self.is_under(s) {
             self.part.ask_opening(s)
         } else {
-            0
+            Ok(())
         }
     }
 
-    fn ask_staying(&self, s: &Situation) -> u8 {
+    fn ask_staying(&self, s: &Situation) -> Result<(), Failed> {
         if self.is_under(s) {
             self.part.ask_staying(s)
         } else {
-            0
+            Ok(())
         }
     }
 }

@@ -1,13 +1,15 @@
 //! The rules that read a situation themselves: a test, under a number.
-ghost use Rattle.std.specs.Prelude.{◌≡◌, ◌&&◌, if◌then◌else◌, Bool, true, false, Ok, Err};
+ghost use Rattle.std.specs.Prelude.{◌≡◌, ◌&&◌, if◌then◌else◌, Bool, true, false, Ok, Err, MatchBool, IsOkAnd, IsErrOf};
+ghost use Rattle.std.specs.Int.NonZero.{non_zero_u8_get};
 ghost use Rattle.records.specs.declared.Refusal.TheVariants.{OutOfRange};
 ghost use Rattle.records.specs.declared.Situation.{Situation};
 ghost use Rattle.records.specs.Ranges.{temperature_fits};
 ghost use Rattle.usage.specs.Rules.{rule_number_fits, interval_fits, answer, level_passes, role_passes, stop_passes, heads_passes, room_passes, duty_passes};
 
 use crate::role::at_or_above;
-use crate::rule::Rule;
+use crate::rule::{Failed, Rule};
 use records::{Phase, Refusal, Situation};
+use std::num::NonZeroU8;
 
 /// A test of a situation.
 pub trait Test {
@@ -23,40 +25,44 @@ pub trait Test {
         ensures { result ≡ passes self.now s.now };
 }
 
-/// A test as a rule: answers 0 where the test passes or is not made, else the rule's number.
+/// A test as a rule: passes where the test passes or is not made, and else fails under its number.
 #[derive(Clone, Copy, Drop)]
 pub struct Leaf<T> {
-    number: u8,
+    number: NonZeroU8,
     test: T,
 }
 
 impl<T: Test + Drop> Leaf<T> {
     /// The rule of a test under a number from 1 to 255.
     pub fn new(number: u32, test: T) -> Result<Leaf<T>, Refusal>
-        ensures { result ≡ (if rule_number_fits number then Ok (record { number = number; test = test }) else Err OutOfRange) }
+        ensures { MatchBool (rule_number_fits number) (IsOkAnd result (λ rule. (non_zero_u8_get rule.number ≡ number) × (rule.test ≡ test))) (IsErrOf result OutOfRange) }
     {
-        match u8::try_from(number) {
-            Ok(number @ 1..) => Ok(Leaf { number, test }),
+        match u8::try_from(number).map(NonZeroU8::new) {
+            Ok(Some(number)) => Ok(Leaf { number, test }),
             _ => Err(Refusal::OutOfRange),
         }
     }
 }
 
 impl<T: Test> Rule for Leaf<T> {
-    ghost opening = { λ rule s. if T.AT_OPENING then answer (T.passes rule.test s) rule.number else 0 };
+    ghost opening = { λ rule s. if T.AT_OPENING then answer (T.passes rule.test s) (non_zero_u8_get rule.number) else 0 };
 
-    ghost staying = { λ rule s. answer (T.passes rule.test s) rule.number };
+    ghost staying = { λ rule s. answer (T.passes rule.test s) (non_zero_u8_get rule.number) };
 
-    fn ask_opening(&self, s: &Situation) -> u8 {
+    fn ask_opening(&self, s: &Situation) -> Result<(), Failed> {
         if T::AT_OPENING {
             self.ask_staying(s)
         } else {
-            0
+            Ok(())
         }
     }
 
-    fn ask_staying(&self, s: &Situation) -> u8 {
-        if self.test.passes(s) { 0 } else { self.number }
+    fn ask_staying(&self, s: &Situation) -> Result<(), Failed> {
+        if self.test.passes(s) {
+            Ok(())
+        } else {
+            Err(Failed(self.number))
+        }
     }
 }
 

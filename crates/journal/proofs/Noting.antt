@@ -39,7 +39,7 @@ after_append : (p : Policy) (s : State) (calls : List Call) (call : Call) →
 after_append p s [] call = refl
 after_append p s (first ∷ calls) call = after_append p (step p s 65 first).after calls call
 
--- one call more, and none more
+-- one call more
 pub noted_more : (p q : Policy) → q ≡ p → (first : State) (calls : List Call) (n : ℕ) (entries new_entries : List Entry) (s after : State) (call other : Call) →
     NotedTo p first calls n entries s → n < length calls → call ≡ get_or calls n other →
     map noted_in new_entries ≡ map noted_in entries ++ (noted call (step q s 65 call) ∷ []) → after ≡ (step q s 65 call).after →
@@ -61,16 +61,6 @@ noted_more p q same first calls n entries new_entries s after call other so_far 
           ∙ sym (notes_append p first (take n calls) call) ∙ ap (notes p first) (sym one_more);
       state = left ∙ ap (λ r. (step r s 65 call).after) same ∙ ap (λ t. (step p t 65 call).after) so_far.state
           ∙ sym (after_append p first (take n calls) call) ∙ ap (after_calls p first) (sym one_more);
-    }
-
-pub noted_kept : (p : Policy) (first : State) (calls : List Call) (n len : ℕ) (entries new_entries : List Entry) (s t : State) →
-    NotedTo p first calls n entries s → new_entries ≡ entries → t ≡ s → len ≡ length new_entries → NotedTo p first calls len new_entries t
-noted_kept p first calls n len entries new_entries s t so_far kept same long =
-    let at : len ≡ n = long ∙ ap length kept ∙ so_far.counted in
-    record {
-      counted = sym long;
-      noted = ap (map noted_in) kept ∙ so_far.noted ∙ ap (λ k. notes p first (take k calls)) (sym at);
-      state = same ∙ so_far.state ∙ ap (λ k. after_calls p first (take k calls)) (sym at);
     }
 
 -- what the law reads of what was noted

@@ -3,40 +3,42 @@
 
 #[cfg(test)]
 mod tests {
-    use journal::{Ended, Entry, Journal, run};
+    use journal::{Entry, Journal, run};
     use monitor::Monitor;
     use purses::own::OwnPurse;
     use purses::pooled::PooledPurse;
-    use records::{Call, Returned};
+    use records::number::returned_number;
+    use records::{Call, Refusal};
     use std::process::Abort;
     use std::test::Fail;
-    use usage::number::{kind_number, returned_number};
     use usage::order::{EarliestStart, LongestUse};
     use usage::purse::Purse;
     use usage::rule::layer::{Both, For};
-    use usage::rule::leaf::{Duty, Heads, Level, Role, Room, Stop};
+    use usage::rule::leaf::{Duty, Heads, Leaf, Level, Role, Room, Stop};
 
     const LOT: [u8; 8] = *b"COW00001";
 
-    type Crowded = Both<Stop, Both<Heads, Duty>>;
+    type Crowded = Both<Leaf<Stop>, Both<Leaf<Heads>, Leaf<Duty>>>;
 
-    type Guarded = Both<Both<Level, Role>, Both<Room, For<Duty>>>;
+    type Guarded = Both<Both<Leaf<Level>, Leaf<Role>>, Both<Leaf<Room>, For<Leaf<Duty>>>>;
 
     // Stop as rule 3, Heads as rule 4, and a duty every 30 minutes as rule 5.
-    fn crowded() -> Result<Crowded, Returned> {
-        Ok(Both::new(Stop::new(3)?, Both::new(Heads::new(4)?, Duty::new(5, 30)?)))
+    fn crowded() -> Result<Crowded, Refusal> {
+        let duty = Leaf::new(5, Duty::new(30)?)?;
+        Ok(Both::new(Leaf::new(3, Stop)?, Both::new(Leaf::new(4, Heads)?, duty)))
     }
 
     // Level as rule 1, Role as rule 2, Room from -2 to 12 degrees as rule 3, and for labels a duty every 30 minutes as
     // rule 4.
-    fn guarded() -> Result<Guarded, Returned> {
-        let who = Both::new(Level::new(1)?, Role::new(2)?);
-        let place = Both::new(Room::new(3, -20, 120)?, For::new(2, Duty::new(4, 30)?)?);
+    fn guarded() -> Result<Guarded, Refusal> {
+        let who = Both::new(Leaf::new(1, Level)?, Leaf::new(2, Role)?);
+        let room = Leaf::new(3, Room::new(-20, 120)?)?;
+        let place = Both::new(room, For::new(2, Leaf::new(4, Duty::new(30)?)?)?);
         Ok(Both::new(who, place))
     }
 
     // Account 1 shares the home of account 0.
-    fn shared() -> Result<PooledPurse, Returned> {
+    fn shared() -> Result<PooledPurse, Refusal> {
         PooledPurse::new([0, 0, 2, 3, 4, 5, 6, 7, 8, 9, 10, 11, 12, 13, 14, 15])
     }
 
@@ -83,13 +85,13 @@ mod tests {
     // A line's kind, serial, cause and amount.
     fn line(entry: &Entry, place: usize) -> Option<[u32; 4]> {
         let line = entry.lines.get(place)?;
-        let kind = u32::from(kind_number(line.kind));
+        let kind = u32::from(u8::from(line.kind));
         Some([kind, line.serial, u32::from(line.cause), line.amount])
     }
 
     // Holds the answers of a journal to those expected, one for each call.
     fn check_answers(rt: &impl Abort, journal: &Journal, expected: &[[u32; 4]]) {
-        assert_eq!(rt; journal.ended(), Ended::AllCalls);
+        assert_eq!(rt; journal.ended(), Ok(()));
         assert_eq!(rt; journal.entries().len(), expected.len());
         for (entry, numbers_expected) in journal.entries().iter().zip(expected) {
             assert_eq!(rt; numbers(entry), *numbers_expected);

@@ -247,17 +247,15 @@ impl<R: Rule, O: Order, P: Purse> Monitor<R, O, P> {
         requires { returned_number returned ≡ 0 → 65 ≤ length sheet.old }
         ensures { Makes P.Purse.books (unless_refused (returned_number returned) (state_by P.Purse.books self.old) (accepted 0 [] (sweep (policy_by R.Rule.opening R.Rule.staying O.Order.before self.old) (state_by P.Purse.books self.old)))) self.old sheet.old result self.new sheet.new }
     {
-        match returned {
-            Ok(()) => {
-                let (lines, questions) = self.sweep(sheet, 0);
-                Answer {
-                    returned,
-                    lines,
-                    serial: 0,
-                    questions,
-                }
-            }
-            Err(refusal) => refused(refusal),
+        if let Err(refusal) = returned {
+            return refused(refusal);
+        }
+        let (lines, questions) = self.sweep(sheet, 0);
+        Answer {
+            returned,
+            lines,
+            serial: 0,
+            questions,
         }
     }
 }

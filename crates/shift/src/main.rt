@@ -2,16 +2,15 @@
 //! numbers of each answer, then `L` and the fields of each of its lines.
 #![tactic(auto)]
 
-use anyhow::anyhow;
-use journal::{Entry, run};
+use journal::run;
 use monitor::Monitor;
 use purses::own::OwnPurse;
-use records::{Call, Line};
-use std::io;
-use usage::number::{kind_number, returned_number, right_number};
+use records::number::returned_number;
+use records::{Answer, Call, Line, Refusal};
+use std::fmt;
 use usage::order::EarliestStart;
 use usage::rule::layer::Both;
-use usage::rule::leaf::{Duty, Heads, Stop};
+use usage::rule::leaf::{Duty, Heads, Leaf, Stop};
 
 const LOT: [u8; 8] = *b"PIG00417";
 
@@ -55,47 +54,69 @@ const DAY: [Call; 7] = [
     },
 ];
 
-type LineRule = Both<Stop, Both<Heads, Duty>>;
+type LineRule = Both<Leaf<Stop>, Both<Leaf<Heads>, Leaf<Duty>>>;
 
-// Stop as rule 3, Heads as rule 4 and Duty every 30 minutes as rule 5, over an own purse, the earliest start first.
-fn new_monitor() -> Option<Monitor<LineRule, EarliestStart, OwnPurse>> {
-    let stop = Stop::new(3).ok()?;
-    let heads = Heads::new(4).ok()?;
-    let duty = Duty::new(5, 30).ok()?;
-    let rule = Both::new(stop, Both::new(heads, duty));
-    Monitor::new(1, &[], &[], rule, EarliestStart, OwnPurse::new()).ok()
+// Stop as rule 3, Heads as rule 4 and Duty every 30 minutes as rule 5.
+fn line_rule() -> Result<LineRule, Refusal> {
+    let stop = Leaf::new(3, Stop)?;
+    let heads = Leaf::new(4, Heads)?;
+    let duty = Leaf::new(5, Duty::new(30)?)?;
+    Ok(Both::new(stop, Both::new(heads, duty)))
 }
 
-fn print_line(rt: &HostRuntime, line: &Line) -> io::Result<()> {
-    let kind = kind_number(line.kind);
-    let right = right_number(line.right);
-    print!(rt; "L {kind} {} {} ", line.serial, line.badge)?;
-    for byte in line.lot {
-        print!(rt; "{}", char::from(byte))?;
+// A line as it is printed.
+#[derive(Clone, Copy)]
+struct LineText(Line);
+
+impl fmt::Display for LineText {
+    fn fmt<W: fmt::Write>(&self, f: &mut fmt::Formatter<W>) -> fmt::Result {
+        let line = self.0;
+        write!(
+            f,
+            "L {} {} {} ",
+            u8::from(line.kind),
+            line.serial,
+            line.badge
+        )?;
+        for byte in line.lot {
+            write!(f, "{}", char::from(byte))?;
+        }
+        write!(
+            f,
+            " {} {} {} ",
+            u8::from(line.right),
+            line.minute,
+            line.cause
+        )?;
+        writeln!(f, "{} {} {}", line.amount, line.units, line.account)
     }
-    print!(rt; " {right} {} {} ", line.minute, line.cause)?;
-    println!(rt; "{} {} {}", line.amount, line.units, line.account)
 }
 
-fn print_entry(rt: &HostRuntime, entry: &Entry) -> io::Result<()> {
-    let returned = returned_number(entry.answer.returned);
-    let lines = entry.answer.lines;
-    let serial = entry.answer.serial;
-    let questions = entry.answer.questions;
-    println!(rt; "A {returned} {lines} {serial} {questions}")?;
-    for line in &entry.lines {
-        print_line(rt, line)?;
+// An answer as it is printed.
+#[derive(Clone, Copy)]
+struct AnswerText(Answer);
+
+impl fmt::Display for AnswerText {
+    fn fmt<W: fmt::Write>(&self, f: &mut fmt::Formatter<W>) -> fmt::Result {
+        let answer = self.0;
+        write!(
+            f,
+            "A {} {} ",
+            returned_number(answer.returned),
+            answer.lines
+        )?;
+        writeln!(f, "{} {}", answer.serial, answer.questions)
     }
-    Ok(())
 }
 
 fn main(rt: HostRuntime) -> anyhow::Result<()> {
-    let Some(mut monitor) = new_monitor() else {
-        return Err(anyhow!("no monitor"));
-    };
+    let mut monitor = Monitor::new(1, &[], &[], line_rule()?, EarliestStart, OwnPurse::new())?;
     let journal = run(rt.alloc(), &mut monitor, &DAY);
     for entry in journal.entries() {
-        print_entry(&rt, entry)?;
+        print!(rt; "{}", AnswerText(entry.answer))?;
+        for line in &entry.lines {
+            print!(rt; "{}", LineText(*line))?;
+        }
     }
     Ok(())
 }

@@ -1,5 +1,5 @@
 -- The registers that tables can be made with. Assumes nothing.
-use Rattle.std.specs.Prelude.{◌≡◌, ℕ, Bool, not, ◌&&◌, List, [], ◌∷◌, length, ◌==◌, nat_le}
+use Rattle.std.specs.Prelude.{◌≡◌, ℕ, Bool, not, ◌&&◌, List, [], ◌∷◌, length, codes, ◌==◌, nat_le}
 use Rattle.register.specs.Lists.{In, all, rises}
 use Rattle.records.specs.Ranges.{badge_number_fits, code_fits, serial_fits, attribute_fits, limit_fits, prices_fit}
 use Rattle.records.specs.declared.Badge.{Badge}
@@ -17,6 +17,12 @@ abbrev pub unmade_number : Unmade → ℕ
 unmade_number OutOfRange = 2
 unmade_number RegisterFull = 11
 unmade_number OutOfOrder = 20
+
+-- and what it says to a reader
+abbrev pub unmade_text : Unmade → List ℕ
+unmade_text OutOfRange = codes "the first serial or a field is out of range"
+unmade_text RegisterFull = codes "a register has over 64 records"
+unmade_text OutOfOrder = codes "the records of a register do not rise by key"
 
 abbrev pub badge_fits : Badge → Bool
 badge_fits b = badge_number_fits b.number && (attribute_fits b.level && (attribute_fits b.role && attribute_fits b.account))

@@ -1,16 +1,18 @@
 //! How tables are made: with a first serial and registers, which are in range, in order and without heads.
-ghost use Rattle.std.specs.Prelude.{◌≡◌, Bool, MatchResult};
+ghost use Rattle.std.specs.Prelude.{◌≡◌, Bool, Some, MatchResult};
 ghost use Rattle.register.specs.Lists.{all};
 ghost use Rattle.records.specs.Ranges.{prices_fit};
 ghost use Rattle.machine.specs.Checks.{first_applying};
 ghost use Rattle.tables.specs.declared.table.make.Unmade.TheVariants.{RegisterFull};
-ghost use Rattle.tables.specs.Made.{unmade_number, badge_fits, lot_fits, maker_checks, Made};
+ghost use Rattle.tables.specs.Made.{unmade_number, unmade_text, badge_fits, lot_fits, maker_checks, Made};
 
 use crate::table::{NO_BADGE, NO_LOT, Tables};
 use ranges::{attribute_fits, badge_number_fits, code_fits, limit_fits, price_fits, serial_fits};
 use records::{Access, Badge, Lot, Phase, Right, Room};
 use register::bounded::Register;
 use register::slice::{Full, rises};
+use std::error::Error;
+use std::fmt;
 
 /// Why tables are not made.
 #[derive(Clone, Copy, PartialEq, Eq, Debug)]
@@ -20,11 +22,25 @@ pub enum Unmade {
     OutOfOrder,
 }
 
+impl fmt::Display for Unmade {
+    ghost output = { λ unmade. Some (unmade_text unmade) };
+
+    fn fmt<W: fmt::Write>(&self, f: &mut fmt::Formatter<W>) -> fmt::Result {
+        f.write_str(match self {
+            Unmade::OutOfRange => "the first serial or a field is out of range",
+            Unmade::RegisterFull => "a register has over 64 records",
+            Unmade::OutOfOrder => "the records of a register do not rise by key",
+        })
+    }
+}
+
+impl Error for Unmade {}
+
 impl From<Full> for Unmade {
     ghost from_gives = { λ _ unmade. unmade ≡ RegisterFull };
 
     fn from(_full: Full) -> Unmade {
-        Unmade::RegisterFull
+        Self::RegisterFull
     }
 }
 

@@ -1,6 +1,5 @@
 //! The answers: at a level and a role, along a level, and over all levels.
 ghost use Rattle.std.specs.Prelude.{◌≡◌, ◌<◌};
-ghost use Rattle.records.specs.Parts.{price_of};
 ghost use Rattle.grid.specs.Grid.{badge_of, wanted, answer_at, row_of, rows_of, passing_of};
 
 use records::{Access, Badge, Lot, Phase, Right, Room, Situation};
@@ -76,7 +75,7 @@ fn wanted(lot: &Lot, right: Right) -> Access
         badge: 1,
         lot: lot.code,
         right,
-        price: price(lot, right),
+        price: lot.price(right),
         account: 0,
         held: 0,
         used: 0,
@@ -84,11 +83,4 @@ fn wanted(lot: &Lot, right: Right) -> Access
         last_use: 0,
         last_duty: 0,
     }
-}
-
-// The price of a right at a lot.
-fn price(lot: &Lot, right: Right) -> u16
-    ensures { result ≡ price_of lot.now right }
-{
-    lot.prices[usize::from(u8::from(right))]
 }

@@ -31,15 +31,7 @@ module _ (p : Policy) (s : Scene) where
   foremost_is best (a ∷ xs) =
       ap (λ o. foremost_of p s o xs) (foremost_with_is a best) ∙ foremost_is (cond (fails p s a) (sooner_of p.before a best) best) xs
 
-  -- one access more, and all of them
-  pub foremost_more : (best next all : Option Failing) (xs : List Access) (i : ℕ) (d : Access) (answer : ℕ) → i < length xs →
-      answer ≡ p.staying (situation s (get_or xs i d)) → next ≡ foremost_with p.before (get_or xs i d) answer best → foremost_of p s best (drop i xs) ≡ all →
-      foremost_of p s next (drop (i + 1) xs) ≡ all
-  foremost_more best next all xs i d answer h e f inv =
-      let step : foremost_of p s best (drop i xs) ≡ foremost_of p s (foremost_with p.before (get_or xs i d) (p.staying (situation s (get_or xs i d))) best) (drop (i + 1) xs) =
-      at_drop_more (foremost_of p s best) xs i d h in
-      ap (λ o. foremost_of p s o (drop (i + 1) xs)) (f ∙ ap (λ n. foremost_with p.before (get_or xs i d) n best) e) ∙ sym step ∙ inv
-
+  -- all of them
   pub foremost_all : (best : Option Failing) (xs ys : List Access) (i : ℕ) → length xs ≤ i → xs ≡ ys → foremost_of p s best (drop i xs) ≡ foremost_of p s None xs →
       best ≡ with_cause p s (foremost_from p.before (fails p s) None ys)
   foremost_all best xs ys i h same inv =

@@ -19,6 +19,7 @@ use usage::order::Order;
 use usage::purse::Purse;
 use usage::rule::Rule;
 
+#[tactic(auto, using(crate::proofs::Calls::scene_call))]
 impl<R: Rule, O: Order, P: Purse> Monitor<R, O, P> {
     /// A badge opens a lot under a right, and holds units of credit.
     pub fn open(

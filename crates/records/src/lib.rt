@@ -1,6 +1,9 @@
 //! The records of a monitor, and what a terminal sends and reads: plain data, and the number of every case (specs/).
 #![tactic(auto)]
 
+ghost use Rattle.std.specs.Prelude.{◌≡◌};
+ghost use Rattle.records.specs.Parts.{price_of};
+
 use register::key::Keyed;
 
 pub mod number;
@@ -81,6 +84,15 @@ pub struct Lot {
     pub limit: u8,
     pub prices: [u16; 4],
     pub heads: u8,
+}
+
+impl Lot {
+    /// What a unit costs under a right.
+    pub fn price(&self, right: Right) -> u16
+        ensures { result ≡ price_of self.now right }
+    {
+        self.prices[usize::from(u8::from(right))]
+    }
 }
 
 impl Keyed for Lot {

@@ -19,8 +19,5 @@ lots_above c = λ i l. codes_below i c l.code
 pub lots_ordered : ◌≡◌ {A = Lot → Lot → Bool} (λ l m. is_lt (slice_cmp nat_cmp l.code m.code)) lot_below
 lots_ordered = λ i l m. codes_below i l.code m.code
 
-pub badges_above : (n : ℕ) → ◌≡◌ {A = Badge → Bool} (λ b. is_lt (nat_cmp n b.number)) (λ b. nat_lt n b.number)
-badges_above n = λ i b. numbers_below i n b.number
-
 pub badges_ordered : ◌≡◌ {A = Badge → Badge → Bool} (λ b d. is_lt (nat_cmp b.number d.number)) badge_below
 badges_ordered = λ i b d. numbers_below i b.number d.number

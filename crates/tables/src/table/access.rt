@@ -2,7 +2,6 @@
 ghost use Rattle.std.specs.Prelude.{◌≡◌, ◌+◌, true, ◌&&◌, length, IfOk, if◌then◌else◌, Some, ◌==◌, nat_le, nat_lt};
 ghost use Rattle.register.specs.Lists.{first, some};
 ghost use Rattle.records.specs.Numbers.{right_of};
-ghost use Rattle.records.specs.Parts.{price_of};
 ghost use Rattle.machine.specs.State.{is_access, is_lot, access_of, lower};
 ghost use Rattle.machine.specs.Sweep.{enter};
 ghost use Rattle.machine.specs.Checks.{first_applying, open_checks, access_checks, use_checks};
@@ -46,7 +45,7 @@ impl Tables {
             badge,
             lot,
             right,
-            price: price_of(&place, right),
+            price: place.price(right),
             account: holder.account,
             held: units as u16,
             used: 0,
@@ -144,11 +143,4 @@ fn lower(lots: &mut Register<Lot, 64>, code: &[u8; 8])
             ..lot
         });
     }
-}
-
-// What a unit costs at a lot under a right.
-fn price_of(lot: &Lot, right: Right) -> u16
-    ensures { result ≡ price_of lot.now right }
-{
-    lot.prices[usize::from(u8::from(right))]
 }

@@ -8,6 +8,7 @@ ghost use Rattle.usage.specs.Rules.{rule_number_fits, interval_fits, answer, lev
 
 use crate::role::at_or_above;
 use crate::rule::{Failed, Rule};
+use ranges::temperature_fits;
 use records::{Phase, Refusal, Situation};
 use std::num::NonZeroU8;
 
@@ -189,11 +190,4 @@ impl Test for Duty {
     fn passes(&self, s: &Situation) -> bool {
         s.room.clock.saturating_sub(s.access.last_duty) <= self.interval
     }
-}
-
-// Whether a room can have a temperature: -400 to 600.
-fn temperature_fits(temperature: i64) -> bool
-    ensures { result ≡ temperature_fits temperature }
-{
-    (-400..=600).contains(&temperature)
 }

@@ -2,7 +2,7 @@
 ghost use Rattle.std.specs.Prelude.{◌≡◌, ◌<◌};
 ghost use Rattle.grid.specs.Grid.{badge_of, wanted, answer_at, row_of, rows_of, passing_of};
 
-use records::{Access, Badge, Lot, Phase, Right, Room, Situation};
+use records::{Access, Badge, Lot, Right, Room, Situation};
 use std::array;
 use usage::rule::{Rule, answer_number};
 
@@ -44,11 +44,7 @@ pub fn answer_at<R: Rule>(rule: &R, lot: &Lot, right: Right, level: u8, role: u8
     let situation = Situation {
         badge: badge_of(level, role),
         lot: *lot,
-        room: Room {
-            clock: 0,
-            temperature: 0,
-            phase: Phase::Work,
-        },
+        room: Room::default(),
         access: wanted(lot, right),
     };
     answer_number(rule.ask_opening(&situation))
@@ -76,11 +72,6 @@ fn wanted(lot: &Lot, right: Right) -> Access
         lot: lot.code,
         right,
         price: lot.price(right),
-        account: 0,
-        held: 0,
-        used: 0,
-        start: 0,
-        last_use: 0,
-        last_duty: 0,
+        ..Access::default()
     }
 }

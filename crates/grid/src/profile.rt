@@ -86,9 +86,6 @@ fn plain_lot(level: u8, role: u8) -> Lot
         code: *b"00000000",
         level,
         role,
-        stop: false,
-        limit: 0,
-        prices: [0; 4],
-        heads: 0,
+        ..Lot::default()
     }
 }

@@ -10,8 +10,9 @@ pub mod number;
 mod text;
 
 /// What an access is for.
-#[derive(Clone, Copy, PartialEq, Eq, Debug)]
+#[derive(Clone, Copy, PartialEq, Eq, Default, Debug)]
 pub enum Right {
+    #[default]
     Read,
     Weigh,
     Label,
@@ -19,8 +20,9 @@ pub enum Right {
 }
 
 /// Whether the room is at work or is being washed down.
-#[derive(Clone, Copy, PartialEq, Eq, Debug)]
+#[derive(Clone, Copy, PartialEq, Eq, Default, Debug)]
 pub enum Phase {
+    #[default]
     Work,
     Washdown,
 }
@@ -56,7 +58,7 @@ pub enum Refusal {
 }
 
 /// Who works: a badge by its number.
-#[derive(Clone, Copy, PartialEq, Eq, Debug)]
+#[derive(Clone, Copy, PartialEq, Eq, Default, Debug)]
 pub struct Badge {
     pub number: u32,
     pub level: u8,
@@ -75,7 +77,7 @@ impl Keyed for Badge {
 }
 
 /// What is worked on: a lot by its code. `prices` has a price for each right; `heads` counts the accesses open at it.
-#[derive(Clone, Copy, PartialEq, Eq, Debug)]
+#[derive(Clone, Copy, PartialEq, Eq, Default, Debug)]
 pub struct Lot {
     pub code: [u8; 8],
     pub level: u8,
@@ -106,7 +108,7 @@ impl Keyed for Lot {
 }
 
 /// The room: a clock in minutes, a temperature in tenths of a degree Celsius, and its phase.
-#[derive(Clone, Copy, PartialEq, Eq, Debug)]
+#[derive(Clone, Copy, PartialEq, Eq, Default, Debug)]
 pub struct Room {
     pub clock: u32,
     pub temperature: i64,
@@ -115,7 +117,7 @@ pub struct Room {
 
 /// An open access: a badge at a lot under a right. `held` and `used` are units; `price` and `account` are those noted
 /// when it was opened; the rest are minutes of the clock.
-#[derive(Clone, Copy, PartialEq, Eq, Debug)]
+#[derive(Clone, Copy, PartialEq, Eq, Default, Debug)]
 pub struct Access {
     pub serial: u32,
     pub badge: u32,

@@ -3,8 +3,12 @@ use Rattle.std.proofs.Common.{◌≡◌, ◌≤◌, Bool, true, eqb, List, [], �
 use Rattle.register.specs.Lists.{In, all, before_next, rises}
 use Rattle.register.specs.Tests.{both, eqb_equal}
 use Rattle.records.specs.Ranges.{badge_number_fits, code_fits, attribute_fits, limit_fits, prices_fit}
+use Rattle.records.specs.Parts.{new_room}
+use Rattle.records.specs.declared.Access.{Access}
+use Rattle.records.specs.declared.Room.{Room}
 use Rattle.records.specs.declared.Badge.{Badge}
 use Rattle.records.specs.declared.Lot.{Lot}
+use Rattle.machine.specs.Journal.{new_scene}
 use Rattle.machine.specs.Rising.{BelowNext, Rising, badge_below, lot_below, InOrder}
 use Rattle.machine.specs.Fitting.{BadgeFits, LotFits, RegistersFit}
 use Rattle.tables.specs.Made.{badge_fits, lot_fits}
@@ -63,3 +67,9 @@ in_range badges lots e f few_badges few_lots = record {
 
 pub without_heads : (lots : List Lot) → all lot_fits lots ≡ true → (l : Lot) → In l lots → l.heads ≡ 0
 without_heads lots e l i = no_heads l (all_in lot_fits lots e l i)
+
+-- a new scene, from what each part of it was made equal to
+pub scene_made : (badges more_badges : List Badge) (lots more_lots : List Lot) (room : Room) (xs : List Access) →
+    more_badges ≡ badges → more_lots ≡ lots → room ≡ new_room → xs ≡ [] →
+    record { badges = more_badges; lots = more_lots; room = room; accesses = xs } ≡ new_scene badges lots
+scene_made badges more_badges lots more_lots room xs e f g h = cc

@@ -42,15 +42,8 @@ pub fn closing_line(kind: Kind, minute: u32, cause: u16, access: &Access) -> Lin
     ensures { result ≡ closing_line kind minute cause access.now }
 {
     Line {
-        kind,
-        serial: access.serial,
-        badge: access.badge,
-        lot: access.lot,
-        right: access.right,
-        minute,
-        cause,
         amount: charge_of(access),
         units: access.used,
-        account: access.account,
+        ..opening_line(kind, access.serial, minute, cause, access)
     }
 }

@@ -30,25 +30,6 @@ pub struct Tables {
     ghost serial_fits: { next_serial ≤ 1000000001 },
 }
 
-// What stands in free places, and for a badge and a lot that are not in the registers. No open access of a shift is
-// without its badge and its lot.
-const NO_BADGE: Badge = Badge {
-    number: 0,
-    level: 0,
-    role: 0,
-    account: 0,
-};
-
-const NO_LOT: Lot = Lot {
-    code: [0; 8],
-    level: 0,
-    role: 0,
-    stop: false,
-    limit: 0,
-    prices: [0; 4],
-    heads: 0,
-};
-
 // A call wants a sheet of 65 lines.
 fn check_sheet(sheet: usize) -> Result<(), Refusal>
     ensures { result ≡ (if nat_lt sheet 65 then Err ShortSheet else Ok tt) }

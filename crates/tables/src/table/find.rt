@@ -4,7 +4,7 @@ ghost use Rattle.register.specs.Lists.{first, some};
 ghost use Rattle.machine.specs.State.{is_badge, is_lot, is_access, of_badge, at_lot, of_badge_at_lot, situation};
 ghost use Rattle.tables.specs.Tables.{scene_of};
 
-use crate::table::{NO_BADGE, NO_LOT, Tables};
+use crate::table::Tables;
 use records::{Access, Badge, Lot, Right, Room, Situation};
 
 impl Tables {
@@ -64,13 +64,13 @@ impl Tables {
         self.next_serial
     }
 
-    /// What a rule sees of an access.
+    /// What a rule sees of an access. No open access of a shift is without its badge and its lot, for which a default stands.
     pub fn situation(&self, access: &Access) -> Situation
         ensures { result ≡ situation (scene_of self.now) access.now }
     {
         Situation {
-            badge: self.badge(access.badge).unwrap_or(NO_BADGE),
-            lot: self.lot(&access.lot).unwrap_or(NO_LOT),
+            badge: self.badge(access.badge).unwrap_or_default(),
+            lot: self.lot(&access.lot).unwrap_or_default(),
             room: self.room,
             access: *access,
         }

@@ -6,9 +6,9 @@ ghost use Rattle.machine.specs.Checks.{first_applying};
 ghost use Rattle.tables.specs.declared.table.make.Unmade.TheVariants.{RegisterFull};
 ghost use Rattle.tables.specs.Made.{unmade_number, unmade_text, badge_fits, lot_fits, maker_checks, Made};
 
-use crate::table::{NO_BADGE, NO_LOT, Tables};
+use crate::table::Tables;
 use ranges::{attribute_fits, badge_number_fits, code_fits, limit_fits, price_fits, serial_fits};
-use records::{Access, Badge, Lot, Phase, Right, Room};
+use records::{Access, Badge, Lot, Room};
 use register::bounded::Register;
 use register::slice::{Full, rises};
 use std::error::Error;
@@ -44,21 +44,6 @@ impl From<Full> for Unmade {
     }
 }
 
-// What stands in the places of accesses that are free.
-const NO_ACCESS: Access = Access {
-    serial: 0,
-    badge: 0,
-    lot: [0; 8],
-    right: Right::Read,
-    price: 0,
-    account: 0,
-    held: 0,
-    used: 0,
-    start: 0,
-    last_use: 0,
-    last_duty: 0,
-};
-
 impl Tables {
     /// Tables with a first serial, registers, a new room and no access.
     pub fn new(first_serial: u32, badges: &[Badge], lots: &[Lot]) -> Result<Tables, Unmade>
@@ -67,8 +52,8 @@ impl Tables {
         if !serial_fits(first_serial) || !all_fit(badges) || !all_fit(lots) {
             return Err(Unmade::OutOfRange);
         }
-        let badge_register = Register::with_records(NO_BADGE, badges)?;
-        let lot_register = Register::with_records(NO_LOT, lots)?;
+        let badge_register = Register::with_records(Badge::default(), badges)?;
+        let lot_register = Register::with_records(Lot::default(), lots)?;
         if !rises(badges) {
             return Err(Unmade::OutOfOrder);
         }
@@ -78,12 +63,8 @@ impl Tables {
         Ok(Tables {
             badges: badge_register,
             lots: lot_register,
-            accesses: Register::new(NO_ACCESS),
-            room: Room {
-                clock: 0,
-                temperature: 0,
-                phase: Phase::Work,
-            },
+            accesses: Register::new(Access::default()),
+            room: Room::default(),
             next_serial: first_serial,
         })
     }

@@ -2,13 +2,14 @@ use Rattle.std.proofs.Common.{◌≡◌, ◌≤◌, Bool, true, false, List, len
 use Rattle.std.specs.Ordering.{is_lt, nat_cmp}
 use Rattle.std.specs.Cmp.Lexicographic.{slice_cmp}
 use Rattle.register.specs.Lists.{all, rises}
+use Rattle.records.specs.Parts.{new_room}
 use Rattle.records.specs.declared.Badge.{Badge}
 use Rattle.records.specs.declared.Lot.{Lot}
 use Rattle.machine.specs.Rising.{badge_below, lot_below}
 use Rattle.tables.specs.Made.{badge_fits, lot_fits}
 use Rattle.tables.proofs.Coded.{badges_ordered, lots_ordered}
 use Rattle.tables.proofs.Keeping.{kept_new, kept_at}
-use Rattle.tables.proofs.Making.{in_order, in_range, without_heads}
+use Rattle.tables.proofs.Making.{in_order, in_range, without_heads, scene_made}
 use Rattle.tables.proofs.table.Tables.new.Goals as goal
 
 -- what the tests of order say, in the machine's words
@@ -44,11 +45,12 @@ returns c =
     let lots : rises lot_below c.args.lots.now ≡ true = lots_rise c.args.lots.now true c.if-not-rises-2.ensures in
     let held_badges : c.in_ok-badge_register.badge_register ≡ c.args.badges.now = search rules in
     let held_lots : c.in_ok-lot_register.lot_register ≡ c.args.lots.now = search rules in
+    let room : c.default-4.result ≡ new_room = search rules in
     let few_badges : length c.args.badges.now ≤ 64 = search rules in
     let few_lots : length c.args.lots.now ≤ 64 = search rules in (
       search rules,
       record {
-        scene = let none = c.new.ensures in cc;
+        scene = scene_made c.args.badges.now _ c.args.lots.now _ _ _ held_badges held_lots room c.new.ensures;
         serial = refl;
         in_order = in_order c.args.badges.now c.args.lots.now badges lots;
         in_range = in_range c.args.badges.now c.args.lots.now badges_fit lots_fit few_badges few_lots;

@@ -19,6 +19,9 @@ use usage::order::Order;
 use usage::purse::Purse;
 use usage::rule::Rule;
 
+// The cause on the line of an open that is denied for want of credit: above the number of every rule.
+const NO_CREDIT: u16 = 256;
+
 #[tactic(auto, using(crate::proofs::Calls::scene_call))]
 impl<R: Rule, O: Order, P: Purse> Monitor<R, O, P> {
     /// A badge opens a lot under a right, and holds units of credit.
@@ -202,7 +205,7 @@ impl<R: Rule, O: Order, P: Purse> Monitor<R, O, P> {
             .hold(u32::from(access.account), hold_of(access))
             .is_err()
         {
-            sheet[0] = opening_line(Kind::Denied, 0, minute, 256, access);
+            sheet[0] = opening_line(Kind::Denied, 0, minute, NO_CREDIT, access);
             return denied(Refusal::CreditShort);
         }
         self.admit(sheet, access)
@@ -278,9 +281,7 @@ fn denied(refusal: Refusal) -> Answer
     ensures { result ≡ record { returned = Err refusal; lines = 1; serial = 0; questions = 0 } }
 {
     Answer {
-        returned: Err(refusal),
         lines: 1,
-        serial: 0,
-        questions: 0,
+        ..refused(refusal)
     }
 }

@@ -1,4 +1,4 @@
-//! The records of a monitor, and what a terminal sends and reads: plain data, and the number of every case (specs/).
+//! The records of a monitor, and what a terminal sends and reads: plain data, with keys, numbers and texts.
 #![tactic(auto)]
 
 ghost use Rattle.std.specs.Prelude.{◌≡◌};

@@ -2,7 +2,7 @@ use Rattle.std.proofs.Common.{◌∙◌, rules, tests}
 use Rattle.std.proofs.lemmas.Iterator.{YieldsList-from_slice}
 use Rattle.std.proofs.lemmas.Iterator.Search.{all_from_yields_List}
 use Rattle.records.specs.Ranges.{between}
-use Rattle.ranges.proofs.Between.{list_all-between}
+use Rattle.records.proofs.Between.{list_all-between}
 use Rattle.ranges.proofs.code_fits.Goals as goal
 
 pub returns : goal.returns

@@ -1,13 +1,12 @@
 //! How tables are made: with a first serial and registers, which are in range, in order and without heads.
 ghost use Rattle.std.specs.Prelude.{◌≡◌, Bool, Some, MatchResult};
 ghost use Rattle.register.specs.Lists.{all};
-ghost use Rattle.records.specs.Ranges.{prices_fit};
 ghost use Rattle.machine.specs.Checks.{first_applying};
 ghost use Rattle.tables.specs.declared.table.make.Unmade.TheVariants.{RegisterFull};
 ghost use Rattle.tables.specs.Made.{unmade_number, unmade_text, badge_fits, lot_fits, maker_checks, Made};
 
 use crate::table::Tables;
-use ranges::{attribute_fits, badge_number_fits, code_fits, limit_fits, price_fits, serial_fits};
+use ranges::{attribute_fits, badge_number_fits, code_fits, limit_fits, prices_fit, serial_fits};
 use records::{Access, Badge, Lot, Room};
 use register::bounded::Register;
 use register::slice::{Full, rises};
@@ -97,7 +96,7 @@ impl Ranged for Lot {
             && attribute_fits(u32::from(self.level))
             && attribute_fits(u32::from(self.role))
             && limit_fits(u32::from(self.limit))
-            && prices_fit(&self.prices)
+            && prices_fit(&self.prices.map(u32::from))
             && self.heads == 0
     }
 }
@@ -107,11 +106,4 @@ fn all_fit<T: Ranged>(records: &[T]) -> bool
     ensures { result ≡ all T.Ranged.fit records.now }
 {
     records.iter().all(|record| record.fits())
-}
-
-// Whether the four prices of a lot are in range.
-fn prices_fit(prices: &[u16; 4]) -> bool
-    ensures { result ≡ prices_fit prices.now }
-{
-    prices.iter().all(|price| price_fits(u32::from(*price)))
 }

@@ -16,7 +16,7 @@ use usage::order::Order;
 use usage::purse::Purse;
 use usage::rule::Rule;
 
-// A line of a sheet on which nothing is written yet.
+// A line of a sheet on which nothing is written yet. It is written out, since no kind of line is the usual one.
 const BLANK: Line = Line {
     kind: Kind::Denied,
     serial: 0,

@@ -264,7 +264,8 @@ impl<R: Rule, O: Order, P: Purse> Monitor<R, O, P> {
     }
 }
 
-// What a call answers that is refused: it writes nothing.
+// What a call answers that is refused: it writes nothing. A call answers its four numbers whatever it returned, so that a
+// refusal ends in an answer and not in `?`.
 fn refused(refusal: Refusal) -> Answer
     ensures { result ≡ record { returned = Err refusal; lines = 0; serial = 0; questions = 0 } }
 {

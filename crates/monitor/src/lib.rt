@@ -83,7 +83,7 @@ impl<R: Rule, O: Order, P: Purse> Monitor<R, O, P> {
     }
 
     // While some open access fails its staying question, the first in the order among those is revoked. Lines are
-    // written from a place of the sheet on. Answers how many, and how many questions were put.
+    // written from a place of the sheet on. Answers how many, a number of the call's answer, and how many questions were put.
     fn sweep(&mut self, sheet: &mut [Line], from: usize) -> (u32, u32)
         requires { from + length (state_by P.Purse.books self.old).scene.accesses ≤ length sheet.old }
         ensures swept { SweptBy (sweep (policy_by R.Rule.opening R.Rule.staying O.Order.before self.old) (state_by P.Purse.books self.old)) from result (state_by P.Purse.books self.new) sheet.old sheet.new }

@@ -101,7 +101,7 @@ impl From<Refusal> for u8 {
     }
 }
 
-/// The number of what a call returned: 0 where it was accepted.
+/// The number of what a call returned: 0 where it was accepted. Both types are std's, so it is no `From`.
 pub fn returned_number(returned: Result<(), Refusal>) -> u8
     ensures { result ≡ returned_number returned }
 {

@@ -1,4 +1,5 @@
-//! Registers in lent slices: the first places of a slice hold the records, and the places behind them are free.
+//! Registers in lent slices: the first places of a slice hold the records, as many as a count says, and the places behind
+//! them are free. The records may stand in any order, so that they are searched one by one.
 ghost use Rattle.std.specs.Prelude.{◌≡◌, ◌+◌, ◌<◌, ◌≤◌, ◌∷◌, ◌++◌, length, take, drop, nat_lt, slice_index_or};
 ghost use Rattle.std.specs.Ordering.{is_lt};
 ghost use Rattle.std.specs.List.{insert, remove};

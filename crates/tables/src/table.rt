@@ -30,7 +30,7 @@ pub struct Tables {
     ghost serial_fits: { next_serial ≤ 1000000001 },
 }
 
-// A call wants a sheet of 65 lines.
+// A call wants a sheet of 65 lines, which stays with the monitor: the tables are told its length.
 fn check_sheet(sheet: usize) -> Result<(), Refusal>
     ensures { result ≡ (if nat_lt sheet 65 then Err ShortSheet else Ok tt) }
 {

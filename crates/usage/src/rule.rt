@@ -28,7 +28,8 @@ pub trait Rule {
         ensures { answer_number result ≡ staying self.now s.now };
 }
 
-/// The number that stands for an answer: 0 for pass, else the number of the rule that fails.
+/// The number that stands for an answer: 0 for pass, else the number of the rule that fails. Both types are std's, so it is
+/// no `From`.
 pub fn answer_number(answer: Result<(), Failed>) -> u8
     ensures { result ≡ answer_number answer }
 {

@@ -135,7 +135,7 @@ fn attribute(number: u32) -> Result<u8, Refusal>
     Ok(number as u8)
 }
 
-// Four prices, where they are in range.
+// Four prices, where they are in range: each by itself, since an array's `map` does not end at the first that is not.
 fn prices_of(prices: [u32; 4]) -> Result<[u16; 4], Refusal>
     ensures { result ≡ (if prices_fit prices then Ok prices else Err OutOfRange) }
 {

@@ -2,6 +2,8 @@
 #![tactic(auto)]
 
 ghost use Rattle.std.specs.Prelude.{◌≡◌};
+ghost use Rattle.std.specs.Cmp.Lexicographic.{bytes_decides};
+ghost use Rattle.register.specs.Tests.{eqb_equal};
 ghost use Rattle.records.specs.Parts.{price_of};
 
 use register::key::Keyed;
@@ -71,6 +73,8 @@ impl Keyed for Badge {
 
     ghost keyed = { λ r. r.number };
 
+    ghost equal = { eqb_equal };
+
     fn key(&self) -> u32 {
         self.number
     }
@@ -101,6 +105,8 @@ impl Keyed for Lot {
     type Key = [u8; 8];
 
     ghost keyed = { λ r. r.code };
+
+    ghost equal = { λ c d. (bytes_decides c d).0 };
 
     fn key(&self) -> [u8; 8] {
         self.code
@@ -136,6 +142,8 @@ impl Keyed for Access {
     type Key = u32;
 
     ghost keyed = { λ r. r.serial };
+
+    ghost equal = { eqb_equal };
 
     fn key(&self) -> u32 {
         self.serial

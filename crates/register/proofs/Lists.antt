@@ -164,6 +164,12 @@ module _ {X : Type 0} where
       by_test (p y) (λ b. cond b (Some y) (first p xs) ≡ None → cond b (f y ∷ xs) (y ∷ changed p f xs) ≡ y ∷ xs)
       (λ _ h. none_some (sym h)) (λ _ h. ap (λ ys. y ∷ ys) (changed_none p f xs h)) e
 
+  pub without_none : (p : X → Bool) (xs : List X) → first p xs ≡ None → without p xs ≡ xs
+  without_none p [] e = refl
+  without_none p (y ∷ xs) e =
+      by_test (p y) (λ b. cond b (Some y) (first p xs) ≡ None → cond b xs (y ∷ without p xs) ≡ y ∷ xs)
+      (λ _ h. none_some (sym h)) (λ _ h. ap (λ ys. y ∷ ys) (without_none p xs h)) e
+
   pub changed_known : (p : X → Bool) (f : X → X) (xs : List X) (x new : X) → first p xs ≡ Some x → new ≡ f x → changed p (λ _. new) xs ≡ changed p f xs
   changed_known p f [] x new e same = refl
   changed_known p f (y ∷ xs) x new e same =

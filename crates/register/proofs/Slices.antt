@@ -7,7 +7,7 @@ use Rattle.std.proofs.lemmas.Bool.Decides.{nat_tests}
 use Rattle.std.specs.List.{copy_within, insert, remove, position, position_or_len}
 use Rattle.register.specs.Lists.{first, some, without, changed, entered}
 use Rattle.register.specs.Slices.{spot}
-use Rattle.register.specs.Tests.{by_test, not_below}
+use Rattle.register.specs.Tests.{by_test, none_some, not_below}
 use Rattle.register.proofs.Lists.{changed_none, length_changed, length_entered, length_without}
 
 module _ {X : Type 0} (p : X → Bool) where
@@ -32,43 +32,41 @@ module _ {X : Type 0} (p : X → Bool) where
       (λ _. spot_stops xs)
       (λ t. omega (arith, spot_stops xs, spot_within xs, not_below (position_or_len p xs) (length xs) t))
 
+  -- std's search gives the spot, where it is in the list
+  position_spot : (xs : List X) → position p xs ≡ cond (ltb (spot p xs) (length xs)) (Some (spot p xs)) None
+  position_spot xs = ap (λ n. cond (ltb n (length xs)) (Some n) None) (spot_stops xs)
+
   -- the first that passes stands at the spot, and where the spot is past the list, none passes
-  pub first_at_spot : (xs : List X) (d : X) → spot p xs < length xs → first p xs ≡ Some (get_or xs (spot p xs) d)
+  first_at_spot : (xs : List X) (d : X) → spot p xs < length xs → first p xs ≡ Some (get_or xs (spot p xs) d)
   first_at_spot [] d h = absurd (omega arith)
   first_at_spot (x ∷ xs) d h =
       by_test (p x) (λ b. cond b 0 (suc (spot p xs)) < suc (length xs) → cond b (Some x) (first p xs) ≡ Some (get_or (x ∷ xs) (cond b 0 (suc (spot p xs))) d))
       (λ _ _. refl) (λ _ k. first_at_spot xs d (omega arith)) h
 
-  pub first_no_spot : (xs : List X) → length xs ≤ spot p xs → first p xs ≡ None
+  first_no_spot : (xs : List X) → length xs ≤ spot p xs → first p xs ≡ None
   first_no_spot [] h = refl
   first_no_spot (x ∷ xs) h =
       by_test (p x) (λ b. suc (length xs) ≤ cond b 0 (suc (spot p xs)) → cond b (Some x) (first p xs) ≡ None)
       (λ _ k. absurd (omega arith)) (λ _ k. first_no_spot xs (omega arith)) h
 
   -- changes are made at the spot
-  pub changed_at_spot : (new : X) (xs : List X) → changed p (λ _. new) xs ≡ set xs (spot p xs) new
+  changed_at_spot : (new : X) (xs : List X) → changed p (λ _. new) xs ≡ set xs (spot p xs) new
   changed_at_spot new [] = refl
   changed_at_spot new (x ∷ xs) =
       by_test (p x) (λ b. cond b (new ∷ xs) (x ∷ changed p (λ _. new) xs) ≡ set (x ∷ xs) (cond b 0 (suc (spot p xs))) new)
       (λ _. refl) (λ _. ap (λ ys. x ∷ ys) (changed_at_spot new xs))
 
-  pub entered_at_spot : (new : X) (xs : List X) → entered p new xs ≡ insert xs (spot p xs) new
+  entered_at_spot : (new : X) (xs : List X) → entered p new xs ≡ insert xs (spot p xs) new
   entered_at_spot new [] = refl
   entered_at_spot new (x ∷ xs) =
       by_test (p x) (λ b. cond b (new ∷ x ∷ xs) (x ∷ entered p new xs) ≡ insert (x ∷ xs) (cond b 0 (suc (spot p xs))) new)
       (λ _. refl) (λ _. ap (λ ys. x ∷ ys) (entered_at_spot new xs))
 
-  pub without_at_spot : (xs : List X) → without p xs ≡ remove xs (spot p xs)
+  without_at_spot : (xs : List X) → without p xs ≡ remove xs (spot p xs)
   without_at_spot [] = refl
   without_at_spot (x ∷ xs) =
       by_test (p x) (λ b. cond b xs (x ∷ without p xs) ≡ remove (x ∷ xs) (cond b 0 (suc (spot p xs))))
       (λ _. refl) (λ _. ap (λ ys. x ∷ ys) (without_at_spot xs))
-
-  pub without_no_spot : (xs : List X) → length xs ≤ spot p xs → without p xs ≡ xs
-  without_no_spot [] h = refl
-  without_no_spot (x ∷ xs) h =
-      by_test (p x) (λ b. suc (length xs) ≤ cond b 0 (suc (spot p xs)) → cond b xs (x ∷ without p xs) ≡ x ∷ xs)
-      (λ _ k. absurd (omega arith)) (λ _ k. ap (λ ys. x ∷ ys) (without_no_spot xs (omega arith))) h
 
 -- the first places of a slice, where it has fewer too
 module _ {X : Type 0} where
@@ -102,64 +100,80 @@ module _ {X : Type 0} (p : X → Bool) (n : ℕ) (s : List X) (new : X) (none : 
   pub unreplaced_slice : changed p (λ _. new) (take n s) ++ drop n s ≡ s
   unreplaced_slice = ap (λ xs. xs ++ drop n s) (changed_none p (λ _. new) (take n s) none) ∙ take-append-drop n s
 
--- a slice whose first n places hold the register xs, and the place of it that a search came to
-pub record Searched {X : Type 0} (p : X → Bool) (n : ℕ) (s xs : List X) (at : ℕ) : Type 0 where
-  pub held : xs ≡ take n s
-  pub found : at ≡ spot p xs
+-- a search for a key in the first places of a slice, by what was sought and where
+pub searched : {X K : Type 0} (eq : K → K → Bool) (keyed : X → K) {k key : K} {xs ys : List X} {place : Option ℕ} →
+    place ≡ position (λ x. eq (keyed x) k) xs → k ≡ key → xs ≡ ys → position (λ x. eq (keyed x) key) ys ≡ place
+searched eq keyed {k} {key} {xs} {ys} e same held =
+    sym (e ∙ ap (λ k. position (λ x. eq (keyed x) k) xs) same ∙ ap (position (λ x. eq (keyed x) key)) held)
 
-module _ {X : Type 0} {p : X → Bool} {n : ℕ} {s xs : List X} {at : ℕ} (searched : Searched p n s xs at) where
-  place : at ≡ spot p (take n s)
-  place = searched.found ∙ ap (spot p) searched.held
+-- the first that passes, of the records in the first n places of a slice, stands at `at`
+pub record Found {X : Type 0} (p : X → Bool) (n : ℕ) (s : List X) (at : ℕ) : Type 0 where
+  pub place : at ≡ spot p (take n s)
+  pub within : at < length (take n s)
 
-  long : length xs ≡ length (take n s)
-  long = ap length searched.held
+module _ {X : Type 0} (p : X → Bool) (n : ℕ) (s : List X) where
+  pub found : (at : ℕ) → position p (take n s) ≡ Some at → Found p n s at
+  found at e =
+      by_test (ltb (spot p (take n s)) (length (take n s))) (λ b. cond b (Some (spot p (take n s))) None ≡ Some at → Found p n s at)
+      (λ t h. let place : spot p (take n s) ≡ at = cc in
+      let within : spot p (take n s) < length (take n s) = grind (arith, nat_tests) in
+      record { place = sym place; within = omega arith })
+      (λ _ h. none_some h)
+      (sym (position_spot p (take n s)) ∙ e)
 
-  pub found_nowhere : length xs ≤ at → None ≡ first p (take n s)
-  found_nowhere h = sym (first_no_spot p (take n s) (omega (arith, long, place)))
+  pub found_nowhere : position p (take n s) ≡ None → first p (take n s) ≡ None
+  found_nowhere e =
+      by_test (ltb (spot p (take n s)) (length (take n s))) (λ b. cond b (Some (spot p (take n s))) None ≡ None → first p (take n s) ≡ None)
+      (λ _ h. none_some (sym h))
+      (λ t _. first_no_spot p (take n s) (not_below _ _ t))
+      (sym (position_spot p (take n s)) ∙ e)
 
-  pub struck_first : (x : X) → at < length xs → x ≡ get_or s at x → Some x ≡ first p (take n s)
-  struck_first x h e =
-      let early : at < n = omega (arith, long, length-take n s) in
-      let there : get_or (take n s) (spot p (take n s)) x ≡ x = ap (λ i. get_or (take n s) i x) (sym place) ∙ get_or-take n s at x early ∙ sym e in
-      ap Some (sym there) ∙ sym (first_at_spot p (take n s) x (omega (arith, long, place)))
-
-  pub replaced_slice : (new : X) → at < length xs → set s at new ≡ changed p (λ _. new) (take n s) ++ drop n s
-  replaced_slice new h =
-      let there : set (take n s) at new ≡ changed p (λ _. new) (take n s) =
-      ap (λ i. set (take n s) i new) place ∙ sym (changed_at_spot p new (take n s)) in
-      set_first n s at new (omega (arith, long)) ∙ ap (λ ys. ys ++ drop n s) there
-
-  pub replaced_register : (new : X) → at < length xs → take n (set s at new) ≡ changed p (λ _. new) (take n s)
-  replaced_register new h =
-      ap (take n) (replaced_slice new h) ∙ take_first n s (changed p (λ _. new) (take n s)) (length_changed p (λ _. new) (take n s))
-
-  pub added_slice : (new : X) (after : List X) → after ≡ insert (take n s) at new ++ drop (n + 1) s → after ≡ entered p new (take n s) ++ drop (n + 1) s
-  added_slice new after e =
+  -- a register with a record entered at its spot
+  pub added_slice : (new : X) (at : ℕ) (after : List X) → at ≡ spot p (take n s) → after ≡ insert (take n s) at new ++ drop (n + 1) s →
+      after ≡ entered p new (take n s) ++ drop (n + 1) s
+  added_slice new at after place e =
       e ∙ ap (λ i. insert (take n s) i new ++ drop (n + 1) s) place
       ∙ ap (λ ys. ys ++ drop (n + 1) s) (sym (entered_at_spot p new (take n s)))
 
-  pub added_register : (new : X) (after : List X) → n < length s → after ≡ insert (take n s) at new ++ drop (n + 1) s → take (n + 1) after ≡ entered p new (take n s)
+  pub added_register : (new : X) (after : List X) → n < length s → after ≡ entered p new (take n s) ++ drop (n + 1) s →
+      take (n + 1) after ≡ entered p new (take n s)
   added_register new after h e =
       let full : length (take n s) ≡ n = length-take-le n s (omega arith) in
       let more : length (entered p new (take n s)) ≡ suc (length (take n s)) = length_entered p new (take n s) in
-      ap (take (n + 1)) (added_slice new after e) ∙ take_at (entered p new (take n s)) (drop (n + 1) s) (n + 1) (omega arith)
+      ap (take (n + 1)) e ∙ take_at (entered p new (take n s)) (drop (n + 1) s) (n + 1) (omega arith)
 
-  pub struck_slice : (x : X) (after : List X) → after ≡ remove (take (length xs) s) at ++ (x ∷ drop (length xs) s) → after ≡ without p (take n s) ++ (x ∷ drop n s)
-  struck_slice x after e =
-      let front : take (length xs) s ≡ take n s = ap (λ m. take m s) (long ∙ length-take n s) ∙ take_min n s in
-      let behind : drop (length xs) s ≡ drop n s = ap (λ m. drop m s) (long ∙ length-take n s) ∙ drop_min n s in
+module _ {X : Type 0} {p : X → Bool} {n : ℕ} {s : List X} {at : ℕ} (found : Found p n s at) where
+  pub struck_first : (x : X) → x ≡ get_or s at x → Some x ≡ first p (take n s)
+  struck_first x e =
+      let early : at < n = omega (arith, found.within, length-take n s) in
+      let there : get_or (take n s) (spot p (take n s)) x ≡ x = ap (λ i. get_or (take n s) i x) (sym found.place) ∙ get_or-take n s at x early ∙ sym e in
+      ap Some (sym there) ∙ sym (first_at_spot p (take n s) x (omega (arith, found.place, found.within)))
+
+  pub replaced_slice : (new : X) → set s at new ≡ changed p (λ _. new) (take n s) ++ drop n s
+  replaced_slice new =
+      let there : set (take n s) at new ≡ changed p (λ _. new) (take n s) =
+      ap (λ i. set (take n s) i new) found.place ∙ sym (changed_at_spot p new (take n s)) in
+      set_first n s at new found.within ∙ ap (λ ys. ys ++ drop n s) there
+
+  pub replaced_register : (new : X) → take n (set s at new) ≡ changed p (λ _. new) (take n s)
+  replaced_register new =
+      ap (take n) (replaced_slice new) ∙ take_first n s (changed p (λ _. new) (take n s)) (length_changed p (λ _. new) (take n s))
+
+  pub struck_slice : {xs : List X} (x : X) (after : List X) → xs ≡ take n s → after ≡ remove (take (length xs) s) at ++ (x ∷ drop (length xs) s) →
+      after ≡ without p (take n s) ++ (x ∷ drop n s)
+  struck_slice {xs} x after held e =
+      let end : length xs ≡ min n (length s) = ap length held ∙ length-take n s in
+      let front : take (length xs) s ≡ take n s = ap (λ m. take m s) end ∙ take_min n s in
+      let behind : drop (length xs) s ≡ drop n s = ap (λ m. drop m s) end ∙ drop_min n s in
       e ∙ ap (λ ys. remove ys at ++ (x ∷ drop (length xs) s)) front
       ∙ ap (λ ys. remove (take n s) at ++ (x ∷ ys)) behind
-      ∙ ap (λ i. remove (take n s) i ++ (x ∷ drop n s)) place
+      ∙ ap (λ i. remove (take n s) i ++ (x ∷ drop n s)) found.place
       ∙ ap (λ ys. ys ++ (x ∷ drop n s)) (sym (without_at_spot p (take n s)))
 
-  pub struck_register : (x : X) (after : List X) → at < length xs → after ≡ remove (take (length xs) s) at ++ (x ∷ drop (length xs) s) →
-      n ≤ length s → take (n - 1) after ≡ without p (take n s)
-  struck_register x after h e k =
+  pub struck_register : (x : X) (after : List X) → after ≡ without p (take n s) ++ (x ∷ drop n s) → n ≤ length s →
+      take (n - 1) after ≡ without p (take n s)
+  struck_register x after e k =
       let full : length (take n s) ≡ n = length-take-le n s k in
-      let there : some p (take n s) ≡ true = ap is_some (first_at_spot p (take n s) x (omega (arith, long, place))) in
+      let there : some p (take n s) ≡ true = ap is_some (first_at_spot p (take n s) x (omega (arith, found.place, found.within))) in
       let fewer : suc (length (without p (take n s))) ≡ length (take n s) = length_without p (take n s) there in
-      ap (take (n - 1)) (struck_slice x after e) ∙ take_at (without p (take n s)) (x ∷ drop n s) (n - 1) (omega arith)
-
-  pub struck_none : length xs ≤ at → take n s ≡ without p (take n s)
-  struck_none h = sym (without_no_spot p (take n s) (omega (arith, long, place)))
+      ap (take (n - 1)) e ∙ take_at (without p (take n s)) (x ∷ drop n s) (n - 1) (omega arith)

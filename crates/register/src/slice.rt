@@ -2,7 +2,7 @@
 //! them are free. The records may stand in any order, so that they are searched one by one.
 ghost use Rattle.std.specs.Prelude.{◌≡◌, ◌+◌, ◌<◌, ◌≤◌, ◌∷◌, ◌++◌, length, take, drop, nat_lt, slice_index_or};
 ghost use Rattle.std.specs.Ordering.{is_lt};
-ghost use Rattle.std.specs.List.{insert, remove};
+ghost use Rattle.std.specs.List.{position, insert, remove};
 ghost use Rattle.register.specs.Lists.{first, without, changed, rises};
 ghost use Rattle.register.specs.Slices.{spot, insertion, taken, register_inserted, slice_inserted, left, slice_removed};
 
@@ -27,14 +27,10 @@ pub fn replace<T: Keyed + Copy>(records: &mut [T], count: usize, new: T) -> Opti
     ensures after { records.new ≡ changed (λ x. T.Key.eq (T.keyed x) (T.keyed new)) (λ _. new) (take count records.old) ++ drop count records.old }
     ensures register { take count records.new ≡ changed (λ x. T.Key.eq (T.keyed x) (T.keyed new)) (λ _. new) (take count records.old) }
 {
-    let held = first_places(records, count);
-    let at = place_of(held, &new.key());
-    if at < held.len() {
-        let old = records[at];
-        records[at] = new;
-        return Some(old);
-    }
-    None
+    let at = place_of(first_places(records, count), &new.key())?;
+    let replaced = records[at];
+    records[at] = new;
+    Some(replaced)
 }
 
 /// Puts a record in the place of the first of `count` that has its key, and returns that one. Where none has, and a place
@@ -63,12 +59,8 @@ pub fn remove<T: Keyed + Copy>(records: &mut [T], count: usize, key: &T::Key) ->
 {
     let held = first_places(records, count);
     let end = held.len();
-    let at = place_of(held, key);
-    if at < end {
-        Some(strike(records, end, at))
-    } else {
-        None
-    }
+    let at = place_of(held, key)?;
+    Some(strike(records, end, at))
 }
 
 /// Whether each record's key is below the next one's.
@@ -85,15 +77,11 @@ fn first_places<T>(records: &[T], count: usize) -> &[T]
     &records[..count.min(records.len())]
 }
 
-// How many records stand before the first that has this key.
-fn place_of<T: Keyed>(records: &[T], key: &T::Key) -> usize
-    ensures place { result ≡ spot (λ x. T.Key.eq (T.keyed x) key.now) records.now }
-    ensures within { result ≤ length records.now }
+// How many records stand before the first that has this key, where one has.
+fn place_of<T: Keyed>(records: &[T], key: &T::Key) -> Option<usize>
+    ensures { result ≡ position (λ x. T.Key.eq (T.keyed x) key.now) records.now }
 {
-    records
-        .iter()
-        .position(|record| record.key() == *key)
-        .unwrap_or(records.len())
+    records.iter().position(|record| record.key() == *key)
 }
 
 // How many records stand before the first whose key is above this one.

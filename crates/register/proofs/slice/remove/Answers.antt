@@ -1,26 +1,28 @@
 -- The first that has the key is struck at its place in the register. Assumes nothing.
-use Rattle.std.proofs.Common.{Bool, refl}
-use Rattle.register.proofs.Slices.{Searched, found_nowhere, struck_first, struck_slice, struck_register, struck_none}
+use Rattle.std.proofs.Common.{refl, sym, ◌∙◌}
+use Rattle.register.proofs.Lists.{without_none}
+use Rattle.register.proofs.Slices.{searched, found, found_nowhere, struck_first, struck_slice, struck_register}
 use Rattle.register.proofs.slice.remove.Goals as goal
 
-pub returns-then-at-end : goal.returns-then-at-end
-returns-then-at-end g c =
-    let is : g.row.T.Denot → Bool = λ x. g.T.Key.PartialEq.eq (g.T.Keyed.keyed x) c.args.key.now in
-    let searched : Searched is c.args.count c.args.records.now c.first_places-held.result.now c.place_of-at.result =
-    record { held = c.first_places-held.ensures; found = c.place_of-at.ensures.place } in
+pub returns : goal.returns
+returns g c =
+    let there =
+    found _ c.args.count c.args.records.now c.in_ok-at.at
+    (searched g.T.Key.PartialEq.eq g.T.Keyed.keyed c.place_of.ensures (refl {a = c.args.key.now}) c.first_places-held.ensures ∙ c.in_ok-at.was) in
+    let after = struck_slice there c.strike.result c.strike.new.records c.first_places-held.ensures c.strike.ensures.after in
     record {
-      removed = struck_first searched c.strike.result c.if-at-end.true c.strike.ensures.struck;
-      after = struck_slice searched c.strike.result c.strike.new.records c.strike.ensures.after;
-      register = struck_register searched c.strike.result c.strike.new.records c.if-at-end.true c.strike.ensures.after;
+      removed = struck_first there c.strike.result c.strike.ensures.struck;
+      after = after;
+      register = struck_register there c.strike.result c.strike.new.records after;
     }
 
-pub returns-else-at-end : goal.returns-else-at-end
-returns-else-at-end g c =
-    let is : g.row.T.Denot → Bool = λ x. g.T.Key.PartialEq.eq (g.T.Keyed.keyed x) c.args.key.now in
-    let searched : Searched is c.args.count c.args.records.now c.first_places-held.result.now c.place_of-at.result =
-    record { held = c.first_places-held.ensures; found = c.place_of-at.ensures.place } in
-    record {
-      removed = found_nowhere searched c.if-at-end.false;
+pub returns-in_err-at : goal.returns-in_err-at
+returns-in_err-at g c =
+    let nowhere =
+    found_nowhere _ c.args.count c.args.records.now
+    (searched g.T.Key.PartialEq.eq g.T.Keyed.keyed c.place_of.ensures (refl {a = c.args.key.now}) c.first_places-held.ensures ∙ c.in_err-at.was) in
+    rw c.from_residual.ensures (record {
+      removed = sym nowhere;
       after = refl {a = c.args.records.now};
-      register = λ _. struck_none searched c.if-at-end.false;
-    }
+      register = λ _. sym (without_none _ _ nowhere);
+    })

@@ -111,6 +111,7 @@ pub record Found {X : Type 0} (p : X → Bool) (n : ℕ) (s : List X) (at : ℕ)
   pub place : at ≡ spot p (take n s)
   pub within : at < length (take n s)
 
+-- as std's search says
 position_some : {X : Type 0} (p : X → Bool) (n : ℕ) (s : List X) (at : ℕ) → position p (take n s) ≡ Some at → Found p n s at
 position_some p n s at e =
     by_test (ltb (spot p (take n s)) (length (take n s))) (λ b. cond b (Some (spot p (take n s))) None ≡ Some at → Found p n s at)
@@ -147,6 +148,7 @@ module _ {X : Type 0} (p : X → Bool) (n : ℕ) (s : List X) where
       let more : length (entered p new (take n s)) ≡ suc (length (take n s)) = length_entered p new (take n s) in
       ap (take (n + 1)) e ∙ take_at (entered p new (take n s)) (drop (n + 1) s) (n + 1) (omega arith)
 
+-- the first that passes, read, replaced and struck
 module _ {X : Type 0} {p : X → Bool} {n : ℕ} {s : List X} {at : ℕ} (found : Found p n s at) where
   pub struck_first : (x : X) → x ≡ get_or s at x → Some x ≡ first p (take n s)
   struck_first x e =

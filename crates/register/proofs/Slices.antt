@@ -24,17 +24,16 @@ module _ {X : Type 0} (p : X → Bool) where
       by_test (p x) (λ b. cond b 0 (suc (spot p xs)) ≤ suc (length xs))
       (λ _. omega arith) (λ _. let later : spot p xs ≤ length xs = spot_within xs in omega arith)
 
-  -- the place that std's search gives, or the length
-  pub spot_searched : (xs : List X) (place : Option ℕ) → place ≡ position p xs → unwrap_or place (length xs) ≡ spot p xs
-  spot_searched xs place e =
-      ap (λ o. unwrap_or o (length xs)) e
-      ∙ by_test (ltb (position_or_len p xs) (length xs)) (λ b. unwrap_or (cond b (Some (position_or_len p xs)) None) (length xs) ≡ spot p xs)
-      (λ _. spot_stops xs)
-      (λ t. omega (arith, spot_stops xs, spot_within xs, not_below (position_or_len p xs) (length xs) t))
-
   -- std's search gives the spot, where it is in the list
   position_spot : (xs : List X) → position p xs ≡ cond (ltb (spot p xs) (length xs)) (Some (spot p xs)) None
   position_spot xs = ap (λ n. cond (ltb n (length xs)) (Some n) None) (spot_stops xs)
+
+  -- and the length, where it is not
+  pub spot_searched : (xs : List X) (place : Option ℕ) → place ≡ position p xs → unwrap_or place (length xs) ≡ spot p xs
+  spot_searched xs place e =
+      ap (λ o. unwrap_or o (length xs)) (e ∙ position_spot xs)
+      ∙ by_test (ltb (spot p xs) (length xs)) (λ b. unwrap_or (cond b (Some (spot p xs)) None) (length xs) ≡ spot p xs)
+      (λ _. refl) (λ t. omega (arith, spot_within xs, not_below (spot p xs) (length xs) t))
 
   -- the first that passes stands at the spot, and where the spot is past the list, none passes
   first_at_spot : (xs : List X) (d : X) → spot p xs < length xs → first p xs ≡ Some (get_or xs (spot p xs) d)
@@ -48,6 +47,13 @@ module _ {X : Type 0} (p : X → Bool) where
   first_no_spot (x ∷ xs) h =
       by_test (p x) (λ b. suc (length xs) ≤ cond b 0 (suc (spot p xs)) → cond b (Some x) (first p xs) ≡ None)
       (λ _ k. absurd (omega arith)) (λ _ k. first_no_spot xs (omega arith)) h
+
+  -- and so where std's search gives nothing
+  position_none : (xs : List X) → position p xs ≡ None → first p xs ≡ None
+  position_none xs e =
+      by_test (ltb (spot p xs) (length xs)) (λ b. cond b (Some (spot p xs)) None ≡ None → first p xs ≡ None)
+      (λ _ h. none_some (sym h)) (λ t _. first_no_spot xs (not_below (spot p xs) (length xs) t))
+      (sym (position_spot xs) ∙ e)
 
   -- changes are made at the spot
   changed_at_spot : (new : X) (xs : List X) → changed p (λ _. new) xs ≡ set xs (spot p xs) new
@@ -100,35 +106,35 @@ module _ {X : Type 0} (p : X → Bool) (n : ℕ) (s : List X) (new : X) (none : 
   pub unreplaced_slice : changed p (λ _. new) (take n s) ++ drop n s ≡ s
   unreplaced_slice = ap (λ xs. xs ++ drop n s) (changed_none p (λ _. new) (take n s) none) ∙ take-append-drop n s
 
--- a search for a key in the first places of a slice, by what was sought and where
-pub searched : {X K : Type 0} (eq : K → K → Bool) (keyed : X → K) {k key : K} {xs ys : List X} {place : Option ℕ} →
-    place ≡ position (λ x. eq (keyed x) k) xs → k ≡ key → xs ≡ ys → position (λ x. eq (keyed x) key) ys ≡ place
-searched eq keyed {k} {key} {xs} {ys} e same held =
-    sym (e ∙ ap (λ k. position (λ x. eq (keyed x) k) xs) same ∙ ap (position (λ x. eq (keyed x) key)) held)
-
 -- the first that passes, of the records in the first n places of a slice, stands at `at`
 pub record Found {X : Type 0} (p : X → Bool) (n : ℕ) (s : List X) (at : ℕ) : Type 0 where
   pub place : at ≡ spot p (take n s)
   pub within : at < length (take n s)
 
+-- as std's search says
+position_some : {X : Type 0} (p : X → Bool) (n : ℕ) (s : List X) (at : ℕ) → position p (take n s) ≡ Some at → Found p n s at
+position_some p n s at e =
+    by_test (ltb (spot p (take n s)) (length (take n s))) (λ b. cond b (Some (spot p (take n s))) None ≡ Some at → Found p n s at)
+    (λ t h. let place : at ≡ spot p (take n s) = cc in
+    let within : at < length (take n s) = grind (arith, nat_tests) in
+    record { place = place; within = within })
+    (λ _ h. none_some h)
+    (sym (position_spot p (take n s)) ∙ e)
+
+-- what a search for a key in the first n places says that came to `place`
+module _ {X K : Type 0} (eq : K → K → Bool) (keyed : X → K) (n : ℕ) (s : List X) {k key : K} {xs : List X} {place : Option ℕ}
+    (e : place ≡ position (λ x. eq (keyed x) k) xs) (same : k ≡ key) (held : xs ≡ take n s) where
+  told : place ≡ position (λ x. eq (keyed x) key) (take n s)
+  told = e ∙ ap (λ k. position (λ x. eq (keyed x) k) xs) same ∙ ap (position (λ x. eq (keyed x) key)) held
+
+  pub found : {at : ℕ} → place ≡ Some at → Found (λ x. eq (keyed x) key) n s at
+  found there = position_some (λ x. eq (keyed x) key) n s _ (sym told ∙ there)
+
+  pub found_nowhere : place ≡ None → first (λ x. eq (keyed x) key) (take n s) ≡ None
+  found_nowhere nowhere = position_none _ (take n s) (sym told ∙ nowhere)
+
+-- a record entered at the spot in the first n places
 module _ {X : Type 0} (p : X → Bool) (n : ℕ) (s : List X) where
-  pub found : (at : ℕ) → position p (take n s) ≡ Some at → Found p n s at
-  found at e =
-      by_test (ltb (spot p (take n s)) (length (take n s))) (λ b. cond b (Some (spot p (take n s))) None ≡ Some at → Found p n s at)
-      (λ t h. let place : spot p (take n s) ≡ at = cc in
-      let within : spot p (take n s) < length (take n s) = grind (arith, nat_tests) in
-      record { place = sym place; within = omega arith })
-      (λ _ h. none_some h)
-      (sym (position_spot p (take n s)) ∙ e)
-
-  pub found_nowhere : position p (take n s) ≡ None → first p (take n s) ≡ None
-  found_nowhere e =
-      by_test (ltb (spot p (take n s)) (length (take n s))) (λ b. cond b (Some (spot p (take n s))) None ≡ None → first p (take n s) ≡ None)
-      (λ _ h. none_some (sym h))
-      (λ t _. first_no_spot p (take n s) (not_below _ _ t))
-      (sym (position_spot p (take n s)) ∙ e)
-
-  -- a register with a record entered at its spot
   pub added_slice : (new : X) (at : ℕ) (after : List X) → at ≡ spot p (take n s) → after ≡ insert (take n s) at new ++ drop (n + 1) s →
       after ≡ entered p new (take n s) ++ drop (n + 1) s
   added_slice new at after place e =
@@ -142,6 +148,7 @@ module _ {X : Type 0} (p : X → Bool) (n : ℕ) (s : List X) where
       let more : length (entered p new (take n s)) ≡ suc (length (take n s)) = length_entered p new (take n s) in
       ap (take (n + 1)) e ∙ take_at (entered p new (take n s)) (drop (n + 1) s) (n + 1) (omega arith)
 
+-- the first that passes, read, replaced and struck
 module _ {X : Type 0} {p : X → Bool} {n : ℕ} {s : List X} {at : ℕ} (found : Found p n s at) where
   pub struck_first : (x : X) → x ≡ get_or s at x → Some x ≡ first p (take n s)
   struck_first x e =

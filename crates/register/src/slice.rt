@@ -7,6 +7,7 @@ ghost use Rattle.register.specs.Lists.{first, without, changed, rises};
 ghost use Rattle.register.specs.Slices.{spot, insertion, taken, register_inserted, slice_inserted, left, slice_removed};
 
 use crate::key::Keyed;
+use std::mem;
 
 /// No place was free.
 #[derive(Clone, Copy, PartialEq, Eq, Debug)]
@@ -28,9 +29,7 @@ pub fn replace<T: Keyed + Copy>(records: &mut [T], count: usize, new: T) -> Opti
     ensures register { take count records.new ≡ changed (λ x. T.Key.eq (T.keyed x) (T.keyed new)) (λ _. new) (take count records.old) }
 {
     let at = place_of(first_places(records, count), &new.key())?;
-    let replaced = records[at];
-    records[at] = new;
-    Some(replaced)
+    Some(mem::replace(&mut records[at], new))
 }
 
 /// Puts a record in the place of the first of `count` that has its key, and returns that one. Where none has, and a place

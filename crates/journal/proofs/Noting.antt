@@ -1,32 +1,20 @@
 -- What was noted so far, and the shift that it shows. Assumes nothing.
-use Rattle.std.proofs.Common.{◌≡◌, ℕ, ◌+◌, ◌<◌, List, [], ◌∷◌, ◌++◌, map, length, get_or, take, drop, vec_items, sym, refl, ap, ◌∙◌, subst, append_assoc, append-nil, arith, length-append}
+use Rattle.std.proofs.Common.{◌≡◌, ℕ, ◌+◌, ◌<◌, List, [], ◌∷◌, ◌++◌, map, length, get_or, take, sym, refl, ap, ◌∙◌, subst, append_assoc, append-nil, arith, length-append}
 use mathlib.Core.List.{map-map}
 use lib.ListN.{length-map}
-use lib.Seq.{take-append_seam}
 use Rattle.std.proofs.lemmas.List.{take_more}
 use Rattle.records.specs.declared.Badge.{Badge}
 use Rattle.records.specs.declared.Call.{Call}
-use Rattle.records.specs.declared.Line.{Line}
 use Rattle.records.specs.declared.Lot.{Lot}
 use Rattle.usage.specs.Orders.{Ordered}
 use Rattle.machine.specs.State.{Policy, State}
-use Rattle.machine.specs.Step.{Outcome, step, sheet_after}
+use Rattle.machine.specs.Step.{step}
 use Rattle.machine.specs.Journal.{Entry as Replayed}
 use Rattle.machine.specs.Law.{Shift, start, then, New, Lawful}
 use Rattle.machine.specs.Runs.{after_calls}
 use Rattle.machine.proofs.Lawfulness.{shifts_lawful}
-use Rattle.monitor.specs.Answered.{Answered}
 use Rattle.journal.specs.declared.Entry.{Entry}
 use Rattle.journal.specs.Notes.{Noted, NotedTo, noted, notes, noted_in, replayed}
-
--- what an entry notes that keeps as many lines of its sheet as the call wrote
-pub made_entry : (call : Call) (o : Outcome) (e : Entry) (after : State) (sheet new_sheet : List Line) → e.call ≡ call →
-    Answered o e.answer after sheet new_sheet → vec_items e.lines ≡ take e.answer.lines new_sheet → noted_in e ≡ noted call o
-made_entry call o e after sheet new_sheet same answered cut =
-    let kept : vec_items e.lines ≡ o.lines =
-    cut ∙ ap (take e.answer.lines) answered.written ∙ ap (λ n. take n (sheet_after o.lines sheet)) answered.lines
-    ∙ take-append_seam o.lines (drop (length o.lines) sheet) in
-    cc (same, kept, answered.returned, answered.lines, answered.serial, answered.questions)
 
 -- one call more
 notes_append : (p : Policy) (s : State) (calls : List Call) (call : Call) →

@@ -1,16 +1,15 @@
 -- What a call answers, from its checks, its change and the sweep. Assumes nothing.
-use Rattle.std.proofs.Common.{◌≡◌, ℕ, suc, ◌+◌, ◌<◌, ◌≤◌, true, false, cond, not, eqb, ltb, leb, List, [], ◌∷◌, ◌++◌, length, drop, set, Ok, sym, refl, ap, ◌∙◌, subst, add-one, one-add, arith}
+use Rattle.std.proofs.Common.{◌≡◌, ℕ, suc, ◌+◌, ◌<◌, ◌≤◌, true, false, cond, eqb, ltb, leb, List, [], ◌∷◌, ◌++◌, length, drop, set, Ok, refl, ap, ◌∙◌, subst, add-one, one-add, arith}
 use Rattle.std.proofs.lemmas.Bool.Decides.{nat_tests}
 use Rattle.register.specs.Lists.{some}
-use Rattle.register.specs.Tests.{by_test, eqb_equal, not_refused}
+use Rattle.register.specs.Tests.{by_test, not_refused}
 use Rattle.records.specs.declared.Answer.{Answer}
 use Rattle.records.specs.declared.Line.{Line}
-use Rattle.records.specs.declared.Call.TheVariants.{Grant}
-use Rattle.usage.specs.Books.{Books, after_add, add_returns, add_leaves}
+use Rattle.usage.specs.Books.{Books}
 use Rattle.machine.specs.State.{Policy, Scene, State, is_lot, with_scene}
 use Rattle.machine.specs.Sweep.{sweep}
-use Rattle.machine.specs.Checks.{first_applying, open_checks, grant_checks}
-use Rattle.machine.specs.Step.{Outcome, accepted, refused, unless_refused, with_grant, step, sheet_after}
+use Rattle.machine.specs.Checks.{first_applying, open_checks}
+use Rattle.machine.specs.Step.{Outcome, accepted, refused, unless_refused, sheet_after}
 use Rattle.machine.proofs.Checked.{none_apply}
 use Rattle.tables.specs.Tables.{if_passed}
 use Rattle.monitor.specs.Answered.{Answered, SweptBy, written_from}
@@ -55,27 +54,6 @@ line_call p moved t serial l line r after sheet new_sheet h same same_line swept
   written = swept.written ∙ more_lines line (sweep p t).lines sheet h ∙ ap (λ x. sheet_after (x ∷ (sweep p t).lines) sheet) same_line
       ∙ ap (λ x. sheet_after (l ∷ (sweep p x).lines) sheet) same;
 }
-
--- a grant: the purse's own check and change, and then the sweep
-pub grant_call : (p : Policy) (s : State) (account amount returned sheet_lines : ℕ) (books : Books) (a : Answer) (after : State) (sheet new_sheet : List Line) →
-    ltb sheet_lines 65 ≡ false → returned ≡ add_returns account amount s.books → books ≡ add_leaves account amount s.books →
-    Answered (unless_refused returned (state s.scene s.next_serial books) (accepted 0 [] (sweep p (state s.scene s.next_serial books)))) a after sheet new_sheet →
-    Answered (step p s sheet_lines (Grant account amount)) a after sheet new_sheet
-grant_call p s account amount returned sheet_lines books a after sheet new_sheet long number left h =
-    let n : ℕ = add_returns account amount s.books in
-    let moved : state s.scene s.next_serial books ≡ if_passed returned (with_grant account amount s) s =
-    ap (state s.scene s.next_serial) left
-    ∙ by_test (eqb n 0)
-    (λ b. state s.scene s.next_serial (cond b (after_add account amount s.books) s.books)
-    ≡ cond b (state s.scene s.next_serial (cond b (after_add account amount s.books) s.books)) s)
-    (λ _. refl) (λ _. refl)
-    ∙ ap (λ k. if_passed k (with_grant account amount s) s) (sym number) in
-    let first : n ≡ first_applying (grant_checks s.books sheet_lines account amount) =
-    by_test (eqb n 0) (λ b. eqb n 0 ≡ b → n ≡ cond (not b) n 0) (λ _ e. eqb_equal n 0 e) (λ _ _. refl) refl
-    ∙ ap (λ b. cond b 1 (cond (not (eqb n 0)) n 0)) (sym long) in
-    subst (λ (o : Outcome). Answered o a after sheet new_sheet)
-    (finished p s (with_grant account amount s) (state s.scene s.next_serial books) returned moved
-    ∙ ap (λ k. unless_refused k s (accepted 0 [] (sweep p (with_grant account amount s)))) (number ∙ first)) h
 
 -- an open that no check refuses has a sheet, a place, a serial and a lot
 pub record OpenPassed (s : State) (sheet : ℕ) (c : List ℕ) : Type 0 where

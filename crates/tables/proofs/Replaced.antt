@@ -1,12 +1,12 @@
 -- A record that is found by its key and put back changed is the change of the first with that key. Assumes nothing.
-use Rattle.std.proofs.Common.{◌≡◌, ℕ, ◌+◌, Bool, true, false, cond, ◌||◌, List, [], ◌∷◌, length, is_ok, is_some, Some, None, Option, Ok, Err, Result, nat_eq, nat_lt, sym, refl, ap, ◌∙◌}
+use Rattle.std.proofs.Common.{◌≡◌, ℕ, ◌+◌, Bool, true, false, cond, ◌||◌, List, length, is_ok, is_some, Some, None, Option, Ok, Err, Result, nat_eq, nat_lt, sym, refl, ap, ◌∙◌}
 use Rattle.std.specs.Ordering.{is_lt, nat_cmp}
 use Rattle.std.specs.Cmp.Lexicographic.{pointwise, slice_cmp}
-use Rattle.register.specs.Lists.{first, some, without, changed, entered}
+use Rattle.register.specs.Lists.{first, some, changed, entered}
 use Rattle.register.specs.Codes.{code_below}
 use Rattle.register.proofs.Lists.{first_in, some_first, changed_known}
 use Rattle.register.specs.CodesLemmas.{same_code_equal}
-use Rattle.register.specs.Tests.{by_test, by_option, none_some, eqb_equal}
+use Rattle.register.specs.Tests.{by_test, by_option, eqb_equal}
 use Rattle.register.specs.Slices.{full, insertion, register_inserted}
 use Rattle.register.specs.declared.slice.Full.{Full}
 use Rattle.records.specs.declared.Access.{Access}
@@ -29,13 +29,6 @@ lot_replaced = replaced is_lot (λ l. l.code) (λ c l h. same_code_equal l.code 
 pub access_replaced : (f : Access → Access) (xs : List Access) (n : ℕ) (x new : Access) → first (is_access n) xs ≡ Some x → new ≡ f x → new.serial ≡ x.serial →
     changed (is_access new.serial) (λ _. new) xs ≡ changed (is_access n) f xs
 access_replaced = replaced is_access (λ a. a.serial) (λ n a h. eqb_equal a.serial n h)
-
--- nothing goes out where none passes
-pub without_none : {X : Type 0} (p : X → Bool) (xs : List X) → first p xs ≡ None → without p xs ≡ xs
-without_none p [] e = refl
-without_none p (x ∷ xs) e =
-    by_test (p x) (λ b. cond b (Some x) (first p xs) ≡ None → cond b xs (x ∷ without p xs) ≡ x ∷ xs)
-    (λ _ h. none_some (sym h)) (λ _ h. ap (λ ys. x ∷ ys) (without_none p xs h)) e
 
 -- an access put back with other units used and another minute of last use
 abbrev pub noted_use : ℕ → ℕ → Access → Access

@@ -19,11 +19,6 @@ badges_rise badges b e = sym (e ∙ ap (λ below. rises below badges) badges_ord
 lots_rise : (lots : List Lot) (b : Bool) → b ≡ rises (λ x y. is_lt (slice_cmp nat_cmp x.code y.code)) lots → rises lot_below lots ≡ b
 lots_rise lots b e = sym (e ∙ ap (λ below. rises below lots) lots_ordered)
 
-pub returns-then-not-rises : goal.returns-then-not-rises
-returns-then-not-rises c =
-    let badges : rises badge_below c.args.badges.now ≡ false = badges_rise c.args.badges.now false c.if-not-rises.ensures in
-    search rules
-
 pub returns-then-not-rises-2 : goal.returns-then-not-rises-2
 returns-then-not-rises-2 c =
     let badges : rises badge_below c.args.badges.now ≡ true = badges_rise c.args.badges.now true c.if-not-rises.ensures in

@@ -5,7 +5,7 @@ use Rattle.machine.specs.State.{Scene, is_access, with_accesses}
 use Rattle.machine.specs.Sweep.{strike}
 use Rattle.tables.specs.Tables.{scene_of, struck, struck_one}
 use Rattle.tables.proofs.Keeping.{kept_struck, kept_at, found_under, found_again}
-use Rattle.tables.proofs.Replaced.{without_none}
+use Rattle.register.proofs.Lists.{without_none}
 use Rattle.tables.proofs.table.Tables.strike.Goals as goal
 
 -- what the removal left, by the access's own serial

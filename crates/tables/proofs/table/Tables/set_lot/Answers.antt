@@ -2,7 +2,7 @@ use Rattle.std.proofs.Common.{◌≡◌, ℕ, Bool, true, false, cond, not, ◌&
 use Rattle.std.proofs.lemmas.Bool.Decides.{nat_tests}
 use Rattle.register.specs.Lists.{some}
 use Rattle.records.proofs.Refusals.{refused}
-use Rattle.records.specs.declared.Refusal.TheVariants.{RegisterFull}
+use Rattle.records.specs.declared.Refusal.TheVariants.{OutOfRange, RegisterFull}
 use Rattle.records.specs.Numbers.{returned_number}
 use Rattle.records.specs.declared.Lot.{Lot}
 use Rattle.records.specs.declared.Refusal.{Refusal}
@@ -45,3 +45,8 @@ returns c =
           ∙ if_accepted c.put.result s (new_lot c.args.code c.args.level c.args.role c.args.stop c.args.limit c.args.prices);
       serial = refl;
     }
+
+pub returns-in_err-lot_of : goal.returns-in_err-lot_of
+returns-in_err-lot_of c =
+    let refused_is : c.from_residual-in_err-lot_of.result ≡ Err OutOfRange = search rules in
+    record { returned = search rules; scene = search rules; serial = refl }

@@ -74,12 +74,6 @@ decides_above role other = (met_above other role other, above_met)
 pub met_same : (role other : ℕ) → role ≡ other → true ≡ at_or_above role other
 met_same role other e = sym (above_met (subst (λ v. Above role v) e equal))
 
-pub met_nowhere : (role other : ℕ) → (role ≡ other → ⊥) → other ≡ 0 → false ≡ at_or_above role other
-met_nowhere role other apart root =
-    let other_is : eqb role other ≡ false = grind (arith, nat_tests) in
-    let root_is : eqb other 0 ≡ true = grind (arith, nat_tests) in
-    sym (rw (above_step role other, other_is, root_is))
-
 pub met_higher : (role other : ℕ) → (role ≡ other → ⊥) → (other ≡ 0 → ⊥) → at_or_above role (parent other) ≡ at_or_above role other
 met_higher role other apart child =
     let other_is : eqb role other ≡ false = grind (arith, nat_tests) in

@@ -10,7 +10,7 @@ pub invariant_of-self-clause-kept : goal.invariant_of-self-clause-kept
 invariant_of-self-clause-kept c =
     kept_at _ _ _ _ _ refl
     (c.replace.ensures.after
-    ∙ access_replaced (after_duty c.args.self.now.room.clock) c.args.self.now.accesses c.args.serial c.in_ok-access.access _ c.in_ok-access.ensures.found refl refl)
+    ∙ access_replaced (after_duty c.args.self.now.room.clock) c.args.self.now.accesses c.args.serial c.in_ok-access.access _ (search rules) refl refl)
     (kept_changed (is_access c.args.serial) (after_duty c.args.self.now.room.clock) c.args.self.now.lots c.args.self.now.accesses c.args.self.now.next_serial
     (λ _. refl) (λ _. refl) c.args.self.now.kept)
 
@@ -20,6 +20,6 @@ returns c =
       returned = search rules;
       scene = ap (with_accesses (scene_of c.args.self.now))
           (c.replace.ensures.after
-          ∙ access_replaced (after_duty c.args.self.now.room.clock) c.args.self.now.accesses c.args.serial c.in_ok-access.access _ c.in_ok-access.ensures.found refl refl);
+          ∙ access_replaced (after_duty c.args.self.now.room.clock) c.args.self.now.accesses c.args.serial c.in_ok-access.access _ (search rules) refl refl);
       serial = search rules;
     }

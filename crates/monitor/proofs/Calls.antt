@@ -1,5 +1,5 @@
 -- What a call answers, from its checks, its change and the sweep. Assumes nothing.
-use Rattle.std.proofs.Common.{◌≡◌, ℕ, ◌<◌, ◌≤◌, true, false, cond, eqb, ltb, leb, List, [], length, refl, ap, ◌∙◌, subst, arith}
+use Rattle.std.proofs.Common.{◌≡◌, ℕ, suc, ◌+◌, ◌<◌, ◌≤◌, true, false, cond, eqb, ltb, leb, List, [], ◌∷◌, ◌++◌, length, drop, set, Ok, refl, ap, ◌∙◌, subst, add-one, one-add, arith}
 use Rattle.std.proofs.lemmas.Bool.Decides.{nat_tests}
 use Rattle.register.specs.Lists.{some}
 use Rattle.register.specs.Tests.{by_test, not_refused}
@@ -9,10 +9,10 @@ use Rattle.usage.specs.Books.{Books}
 use Rattle.machine.specs.State.{Policy, Scene, State, is_lot, with_scene}
 use Rattle.machine.specs.Sweep.{sweep}
 use Rattle.machine.specs.Checks.{first_applying, open_checks}
-use Rattle.machine.specs.Step.{Outcome, accepted, refused, unless_refused}
+use Rattle.machine.specs.Step.{Outcome, accepted, refused, unless_refused, sheet_after}
 use Rattle.machine.proofs.Checked.{none_apply}
 use Rattle.tables.specs.Tables.{if_passed}
-use Rattle.monitor.specs.Answered.{Answered}
+use Rattle.monitor.specs.Answered.{Answered, SweptBy, written_from}
 
 -- the rest of a call from the state that its checks left
 finished : (p : Policy) (s moved t : State) (n : ℕ) → t ≡ if_passed n moved s →
@@ -35,6 +35,25 @@ scene_call p s scene new_scene next_serial returned n a after sheet new_sheet nu
     ∙ by_test (eqb returned 0) (λ b. with_scene s (cond b scene s.scene) ≡ cond b (with_scene s scene) s) (λ _. refl) (λ _. refl) in
     subst (λ (o : Outcome). Answered o a after sheet new_sheet)
     (finished p s (with_scene s scene) (state new_scene next_serial s.books) returned moved ∙ ap (λ k. unless_refused k s (accepted 0 [] (sweep p (with_scene s scene)))) number) h
+
+-- a line on the first place of a sheet, and lines behind it
+more_lines : (l : Line) (lines sheet : List Line) → 0 < length sheet → written_from 1 lines (set sheet 0 l) ≡ sheet_after (l ∷ lines) sheet
+more_lines l lines [] h = absurd (omega arith)
+more_lines l lines (x ∷ sheet) h = ap (λ n. l ∷ (lines ++ drop n (l ∷ sheet))) (one-add (length lines))
+
+-- a call that writes a line of its own and then sweeps
+pub line_call : (p : Policy) (moved t : State) (serial : ℕ) (l line : Line) (r : ℕ × ℕ) (after : State) (sheet new_sheet : List Line) →
+    0 < length sheet → t ≡ moved → line ≡ l → SweptBy (sweep p t) 1 r after (set sheet 0 line) new_sheet →
+    Answered (accepted serial (l ∷ []) (sweep p moved)) (record { returned = Ok tt; lines = r.0 + 1; serial = serial; questions = r.1 }) after sheet new_sheet
+line_call p moved t serial l line r after sheet new_sheet h same same_line swept = record {
+  returned = refl;
+  lines = add-one r.0 ∙ ap suc (swept.lines ∙ ap (λ x. length (sweep p x).lines) same);
+  serial = refl;
+  questions = swept.questions ∙ ap (λ x. (sweep p x).questions) same;
+  state = swept.state ∙ ap (λ x. (sweep p x).after) same;
+  written = swept.written ∙ more_lines line (sweep p t).lines sheet h ∙ ap (λ x. sheet_after (x ∷ (sweep p t).lines) sheet) same_line
+      ∙ ap (λ x. sheet_after (l ∷ (sweep p x).lines) sheet) same;
+}
 
 -- an open that no check refuses has a sheet, a place, a serial and a lot
 pub record OpenPassed (s : State) (sheet : ℕ) (c : List ℕ) : Type 0 where

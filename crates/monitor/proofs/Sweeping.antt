@@ -118,6 +118,13 @@ module _ (p : Policy) (first s : State) (from lines questions : ℕ) (sheet new_
       }
 
 -- a policy by a rule and an order, and by equal ones
-pub same_policy : {R O P : Type 0} (opening staying : R → Situation → ℕ) (before : O → Access → Access → Bool) (m n : Monitor R O P) → m.policy ≡ n.policy →
+pub same_policy : {R O : Type 0} (opening staying : R → Situation → ℕ) (before : O → Access → Access → Bool) (r q : R) (o t : O) → r ≡ q → o ≡ t →
+    policy_of (opening r) (staying r) (before o) ≡ policy_of (opening q) (staying q) (before t)
+same_policy opening staying before r q o t e f =
+    ap (λ x. policy_of (opening x) (staying x) (before o)) e ∙ ap (λ x. policy_of (opening q) (staying q) (before x)) f
+
+-- and by monitors that ask by the same
+pub kept_policy : {R O P : Type 0} (opening staying : R → Situation → ℕ) (before : O → Access → Access → Bool) (m n : Monitor R O P) → m.policy ≡ n.policy →
     policy_by opening staying before m ≡ policy_by opening staying before n
-same_policy opening staying before m n e = ap (λ q. policy_of (opening q.rule) (staying q.rule) (before q.order)) e
+kept_policy opening staying before m n e =
+    same_policy opening staying before m.policy.rule n.policy.rule m.policy.order n.policy.order (ap (λ q. q.rule) e) (ap (λ q. q.order) e)

@@ -1,5 +1,5 @@
 -- Whether a list rises, from what std's test of neighbours answers. Assumes nothing.
-use Rattle.std.proofs.Common.{◌≡◌, ℕ, zero, suc, ◌+◌, ◌<◌, Bool, true, false, ◌&&◌, List, [], ◌∷◌, length, get_or, refl, ap, subst, arith}
+use Rattle.std.proofs.Common.{◌≡◌, ℕ, zero, suc, ◌+◌, ◌<◌, Bool, true, false, ◌&&◌, List, [], ◌∷◌, length, get_or, refl, ap, ◌∙◌, subst, arith}
 use Rattle.std.specs.List.{AllAdjacentBelow, IsAllAdjacentAnswer}
 use Rattle.register.specs.Lists.{rises}
 use Rattle.register.specs.Tests.{by_test}
@@ -29,3 +29,7 @@ module _ {X : Type 0} (below : X → X → Bool) where
   pub rises_answered : (xs : List X) (r : Bool) → IsAllAdjacentAnswer (λ x y b. b ≡ below x y) xs r → r ≡ rises below xs
   rises_answered xs true pass = all_pass xs pass
   rises_answered xs false fail = one_fails xs fail.0 fail.1 fail.2
+
+  -- and from what it answers of the list that it was given
+  pub rises_tested : (xs ys : List X) (r : Bool) → ys ≡ xs → IsAllAdjacentAnswer (λ x y b. b ≡ below x y) ys r → r ≡ rises below xs
+  rises_tested xs ys r same answer = rises_answered ys r answer ∙ ap (rises below) same

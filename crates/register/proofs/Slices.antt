@@ -36,13 +36,13 @@ module _ {X : Type 0} (p : X → Bool) where
       (λ _. refl) (λ t. omega (arith, spot_within xs, not_below (spot p xs) (length xs) t))
 
   -- the first that passes stands at the spot, and where the spot is past the list, none passes
-  first_at_spot : (xs : List X) (d : X) → spot p xs < length xs → first p xs ≡ Some (get_or xs (spot p xs) d)
+  pub first_at_spot : (xs : List X) (d : X) → spot p xs < length xs → first p xs ≡ Some (get_or xs (spot p xs) d)
   first_at_spot [] d h = absurd (omega arith)
   first_at_spot (x ∷ xs) d h =
       by_test (p x) (λ b. cond b 0 (suc (spot p xs)) < suc (length xs) → cond b (Some x) (first p xs) ≡ Some (get_or (x ∷ xs) (cond b 0 (suc (spot p xs))) d))
       (λ _ _. refl) (λ _ k. first_at_spot xs d (omega arith)) h
 
-  first_no_spot : (xs : List X) → length xs ≤ spot p xs → first p xs ≡ None
+  pub first_no_spot : (xs : List X) → length xs ≤ spot p xs → first p xs ≡ None
   first_no_spot [] h = refl
   first_no_spot (x ∷ xs) h =
       by_test (p x) (λ b. suc (length xs) ≤ cond b 0 (suc (spot p xs)) → cond b (Some x) (first p xs) ≡ None)
@@ -56,19 +56,19 @@ module _ {X : Type 0} (p : X → Bool) where
       (sym (position_spot xs) ∙ e)
 
   -- changes are made at the spot
-  changed_at_spot : (new : X) (xs : List X) → changed p (λ _. new) xs ≡ set xs (spot p xs) new
+  pub changed_at_spot : (new : X) (xs : List X) → changed p (λ _. new) xs ≡ set xs (spot p xs) new
   changed_at_spot new [] = refl
   changed_at_spot new (x ∷ xs) =
       by_test (p x) (λ b. cond b (new ∷ xs) (x ∷ changed p (λ _. new) xs) ≡ set (x ∷ xs) (cond b 0 (suc (spot p xs))) new)
       (λ _. refl) (λ _. ap (λ ys. x ∷ ys) (changed_at_spot new xs))
 
-  entered_at_spot : (new : X) (xs : List X) → entered p new xs ≡ insert xs (spot p xs) new
+  pub entered_at_spot : (new : X) (xs : List X) → entered p new xs ≡ insert xs (spot p xs) new
   entered_at_spot new [] = refl
   entered_at_spot new (x ∷ xs) =
       by_test (p x) (λ b. cond b (new ∷ x ∷ xs) (x ∷ entered p new xs) ≡ insert (x ∷ xs) (cond b 0 (suc (spot p xs))) new)
       (λ _. refl) (λ _. ap (λ ys. x ∷ ys) (entered_at_spot new xs))
 
-  without_at_spot : (xs : List X) → without p xs ≡ remove xs (spot p xs)
+  pub without_at_spot : (xs : List X) → without p xs ≡ remove xs (spot p xs)
   without_at_spot [] = refl
   without_at_spot (x ∷ xs) =
       by_test (p x) (λ b. cond b xs (x ∷ without p xs) ≡ remove (x ∷ xs) (cond b 0 (suc (spot p xs))))
@@ -148,6 +148,19 @@ module _ {X : Type 0} (p : X → Bool) (n : ℕ) (s : List X) where
       let more : length (entered p new (take n s)) ≡ suc (length (take n s)) = length_entered p new (take n s) in
       ap (take (n + 1)) e ∙ take_at (entered p new (take n s)) (drop (n + 1) s) (n + 1) (omega arith)
 
+-- a record struck at the spot
+module _ {X : Type 0} (p : X → Bool) (n : ℕ) (s : List X) (at : ℕ) (place : at ≡ spot p (take n s)) where
+  pub struck_slice : {xs : List X} (x : X) (after : List X) → xs ≡ take n s → after ≡ remove (take (length xs) s) at ++ (x ∷ drop (length xs) s) →
+      after ≡ without p (take n s) ++ (x ∷ drop n s)
+  struck_slice {xs} x after held e =
+      let end : length xs ≡ min n (length s) = ap length held ∙ length-take n s in
+      let front : take (length xs) s ≡ take n s = ap (λ m. take m s) end ∙ take_min n s in
+      let behind : drop (length xs) s ≡ drop n s = ap (λ m. drop m s) end ∙ drop_min n s in
+      e ∙ ap (λ ys. remove ys at ++ (x ∷ drop (length xs) s)) front
+      ∙ ap (λ ys. remove (take n s) at ++ (x ∷ ys)) behind
+      ∙ ap (λ i. remove (take n s) i ++ (x ∷ drop n s)) place
+      ∙ ap (λ ys. ys ++ (x ∷ drop n s)) (sym (without_at_spot p (take n s)))
+
 -- the first that passes, read, replaced and struck
 module _ {X : Type 0} {p : X → Bool} {n : ℕ} {s : List X} {at : ℕ} (found : Found p n s at) where
   pub struck_first : (x : X) → x ≡ get_or s at x → Some x ≡ first p (take n s)
@@ -165,17 +178,6 @@ module _ {X : Type 0} {p : X → Bool} {n : ℕ} {s : List X} {at : ℕ} (found 
   pub replaced_register : (new : X) → take n (set s at new) ≡ changed p (λ _. new) (take n s)
   replaced_register new =
       ap (take n) (replaced_slice new) ∙ take_first n s (changed p (λ _. new) (take n s)) (length_changed p (λ _. new) (take n s))
-
-  pub struck_slice : {xs : List X} (x : X) (after : List X) → xs ≡ take n s → after ≡ remove (take (length xs) s) at ++ (x ∷ drop (length xs) s) →
-      after ≡ without p (take n s) ++ (x ∷ drop n s)
-  struck_slice {xs} x after held e =
-      let end : length xs ≡ min n (length s) = ap length held ∙ length-take n s in
-      let front : take (length xs) s ≡ take n s = ap (λ m. take m s) end ∙ take_min n s in
-      let behind : drop (length xs) s ≡ drop n s = ap (λ m. drop m s) end ∙ drop_min n s in
-      e ∙ ap (λ ys. remove ys at ++ (x ∷ drop (length xs) s)) front
-      ∙ ap (λ ys. remove (take n s) at ++ (x ∷ ys)) behind
-      ∙ ap (λ i. remove (take n s) i ++ (x ∷ drop n s)) found.place
-      ∙ ap (λ ys. ys ++ (x ∷ drop n s)) (sym (without_at_spot p (take n s)))
 
   pub struck_register : (x : X) (after : List X) → after ≡ without p (take n s) ++ (x ∷ drop n s) → n ≤ length s →
       take (n - 1) after ≡ without p (take n s)

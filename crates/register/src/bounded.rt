@@ -27,7 +27,7 @@ impl<T, const N: usize> Model for Register<T, N> {
 }
 
 impl<T: Keyed + Copy, const N: usize> Register<T, N> {
-    /// No record yet; `blank` stands in the free places, where nobody sees it.
+    /// No record yet; `blank` stands in the free places.
     pub fn new(blank: T) -> Self
         ensures { result ≡ [] }
     {

@@ -11,7 +11,7 @@ use Rattle.machine.proofs.Foremost.{to_revoke_in}
 use Rattle.machine.proofs.Serials.{first_access}
 use Rattle.monitor.specs.Answered.{policy_by, state_by, SweptBy}
 use Rattle.monitor.specs.Failing.{with_cause}
-use Rattle.monitor.proofs.Sweeping.{underway_begins, underway_more, underway_ends, found_failing, found_none, same_policy}
+use Rattle.monitor.proofs.Sweeping.{underway_begins, underway_more, underway_ends, found_failing, found_none, kept_policy}
 use Rattle.monitor.proofs.Monitor.sweep.Goals as goal
 
 pub loop-failing-init : goal.loop-failing-init
@@ -41,7 +41,7 @@ loop-failing-preserved g c =
     let first : State = state_by g.P.Purse.books c.args.self.now in
     let s : State = state_by g.P.Purse.books c.loop-failing.self in
     let same : policy_by g.R.Rule.opening g.R.Rule.staying g.O.Order.before c.loop-failing.self ≡ p =
-    same_policy g.R.Rule.opening g.R.Rule.staying g.O.Order.before c.loop-failing.self c.args.self.now c.loop-failing.invariant.0 in
+    kept_policy g.R.Rule.opening g.R.Rule.staying g.O.Order.before c.loop-failing.self c.args.self.now c.loop-failing.invariant.0 in
     let found = found_failing p s c.in-Some.failing (subst (λ (q : Policy). Some c.in-Some.failing ≡ with_cause q s.scene (to_revoke q s.scene)) same c.in-Some.ensures.failing) in
     let line_is : c.closing_line.result ≡ closing_line Revoked s.scene.room.clock (p.staying (situation s.scene c.in-Some.failing.access)) c.in-Some.failing.access =
     c.closing_line.ensures
@@ -59,7 +59,7 @@ returns g c =
     let first : State = state_by g.P.Purse.books c.args.self.now in
     let s : State = state_by g.P.Purse.books c.loop-failing.self in
     let same : policy_by g.R.Rule.opening g.R.Rule.staying g.O.Order.before c.loop-failing.self ≡ p =
-    same_policy g.R.Rule.opening g.R.Rule.staying g.O.Order.before c.loop-failing.self c.args.self.now c.loop-failing.invariant.0 in
+    kept_policy g.R.Rule.opening g.R.Rule.staying g.O.Order.before c.loop-failing.self c.args.self.now c.loop-failing.invariant.0 in
     let none = found_none p s (subst (λ (q : Policy). None ≡ with_cause q s.scene (to_revoke q s.scene)) same c.in_default.ensures.failing) in
     let swept : SweptBy (sweep p first) c.args.from (c.loop-failing.lines, c.first_failing.new.questions) s c.args.sheet.now c.loop-failing.sheet =
     underway_ends p first s c.args.from c.loop-failing.lines c.loop-failing.questions c.args.sheet.now c.loop-failing.sheet c.loop-failing.invariant.1

@@ -8,7 +8,7 @@ pub returns : goal.returns
 returns g c =
     let there =
     found g.T.Key.PartialEq.eq g.T.Keyed.keyed c.args.count c.args.records.now c.place_of.ensures (refl {a = c.args.key.now}) c.first_places-held.ensures c.in_ok-at.was in
-    let after = struck_slice there c.strike.result c.strike.new.records c.first_places-held.ensures c.strike.ensures.after in
+    let after = struck_slice _ c.args.count c.args.records.now _ there.place c.strike.result c.strike.new.records c.first_places-held.ensures c.strike.ensures.after in
     record {
       removed = struck_first there c.strike.result c.strike.ensures.struck;
       after = after;

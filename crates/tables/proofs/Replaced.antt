@@ -59,13 +59,17 @@ heads_replaced f lots c x n found e =
     ∙ lot_replaced (λ l. with_heads (f l.heads) l) lots c x (with_heads n x) found (ap (λ k. with_heads k x) e) refl
 
 -- a lot put in the place of the one with its code, with the heads of that one
-lot_put_back : (l : Lot) (lots : List Lot) (heads : ℕ) → some (is_lot l.code) lots ≡ true → heads ≡ heads_of (first (is_lot l.code) lots) →
+lot_back : (l : Lot) (lots : List Lot) (heads : ℕ) → some (is_lot l.code) lots ≡ true → heads ≡ heads_of (first (is_lot l.code) lots) →
     changed (is_lot l.code) (λ _. with_heads heads l) lots ≡ put_lot l lots
-lot_put_back l lots heads there e =
+lot_back l lots heads there e =
     let found : (x : Lot) × (first (is_lot l.code) lots ≡ Some x) = some_first (is_lot l.code) lots there in
     let known : heads ≡ found.0.heads = e ∙ ap heads_of found.1 in
     changed_known (is_lot l.code) (λ old. with_heads old.heads l) lots found.0 (with_heads heads l) found.1 (ap (λ h. with_heads h l) known)
     ∙ sym (ap (λ b. cond b (changed (is_lot l.code) (λ old. with_heads old.heads l) lots) (entered (λ x. code_below l.code x.code) l lots)) there)
+
+pub lot_put_back : (l new : Lot) (lots : List Lot) (heads : ℕ) → new ≡ l → some (is_lot l.code) lots ≡ true → heads ≡ heads_of (first (is_lot l.code) lots) →
+    changed (is_lot new.code) (λ _. with_heads heads new) lots ≡ put_lot l lots
+lot_put_back l new lots heads same there e = ap (λ n. changed (is_lot n.code) (λ _. with_heads heads n) lots) same ∙ lot_back l lots heads there e
 
 -- a lot without heads that was put in, or had no place
 pub record PutIn (l : Lot) (lots more : List Lot) (r : Result (Option Lot) Full) : Type 0 where
@@ -100,7 +104,7 @@ module _ (l : Lot) (lots more : List Lot) (heads : ℕ) (r : Result (Option Lot)
       record {
         accepted = ap is_ok is ∙ sym (ap (λ b. b || nat_lt (length lots) 64) there);
         after = after ∙ ap (λ q. register_inserted q (is_lot l.code) (λ x. code_below l.code x.code) (with_heads heads l) lots) is
-            ∙ lot_put_back l lots heads there known ∙ sym (ap (λ q. cond (is_ok q) (put_lot l lots) lots) is);
+            ∙ lot_back l lots heads there known ∙ sym (ap (λ q. cond (is_ok q) (put_lot l lots) lots) is);
       })
       refl
 
